@@ -1,0 +1,40 @@
+-- 01's examples of numbers, and the faults at their edges, as one statement about the definitions: bytes, place, what stands there.
+use mathlib.Core.Path.{_≡_, refl}
+use mathlib.Core.List.{[], _∷_}
+use Rattle.number.specs.Groups.{gather, value, padded}
+use Rattle.number.specs.Reading.{reading, readAt, formed, ends, notShortest, tooLarge}
+use Rattle.number.specs.Reading.Answer.{number, fault}
+use Rattle.number.specs.Writing.{writing, written}
+
+pub examples :
+    -- the examples of 01, read
+    (readAt (0x7F ∷ []) 0 ≡ number 127 1)
+    × (readAt (0x80 ∷ 0x01 ∷ []) 0 ≡ number 128 2)
+    × (readAt (0xAC ∷ 0x02 ∷ []) 0 ≡ number 300 2)
+    × (readAt (0x80 ∷ 0xD0 ∷ 0xAC ∷ 0xF3 ∷ 0x0E ∷ []) 0 ≡ number 4_000_000_000 5)
+    -- and written
+    × (written 127 ≡ 0x7F ∷ [])
+    × (written 128 ≡ 0x80 ∷ 0x01 ∷ [])
+    × (written 300 ≡ 0xAC ∷ 0x02 ∷ [])
+    × (written 4_000_000_000 ≡ 0x80 ∷ 0xD0 ∷ 0xAC ∷ 0xF3 ∷ 0x0E ∷ [])
+    -- zero is a number of one group; a place in the middle of a number is a place like any other; what follows does not matter
+    × (readAt (0x00 ∷ []) 0 ≡ number 0 1)
+    × (readAt (0x80 ∷ 0x01 ∷ []) 1 ≡ number 1 2)
+    × (readAt (0xAC ∷ 0x02 ∷ 0x80 ∷ []) 0 ≡ number 300 2)
+    -- 1: no byte, at the end and past it; a group that says another follows, and no more bytes
+    × (readAt [] 0 ≡ fault ends)
+    × (readAt (0x7F ∷ []) 1 ≡ fault ends)
+    × (readAt (0x7F ∷ []) 2 ≡ fault ends)
+    × (readAt (0x80 ∷ []) 0 ≡ fault ends)
+    × (readAt (0x80 ∷ 0x80 ∷ 0x80 ∷ 0x80 ∷ []) 0 ≡ fault ends)
+    -- 2: a last group that is zero, after one group and after four
+    × (readAt (0x80 ∷ 0x00 ∷ []) 0 ≡ fault notShortest)
+    × (readAt (0x80 ∷ 0x80 ∷ 0x80 ∷ 0x80 ∷ 0x00 ∷ []) 0 ≡ fault notShortest)
+    -- 3: a fifth group that says more follow, whatever follows; one over the limit; the largest of five groups
+    × (readAt (0x80 ∷ 0x80 ∷ 0x80 ∷ 0x80 ∷ 0x80 ∷ []) 0 ≡ fault tooLarge)
+    × (readAt (0x80 ∷ 0x80 ∷ 0x80 ∷ 0x80 ∷ 0x80 ∷ 0x00 ∷ []) 0 ≡ fault tooLarge)
+    × (readAt (0x81 ∷ 0xD0 ∷ 0xAC ∷ 0xF3 ∷ 0x0E ∷ []) 0 ≡ fault tooLarge)
+    × (readAt (0xFF ∷ 0xFF ∷ 0xFF ∷ 0xFF ∷ 0x7F ∷ []) 0 ≡ fault tooLarge)
+unfolding gather value padded reading readAt formed writing written
+examples =
+    (refl, refl, refl, refl, refl, refl, refl, refl, refl, refl, refl, refl, refl, refl, refl, refl, refl, refl, refl, refl, refl, refl)

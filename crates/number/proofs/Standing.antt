@@ -1,0 +1,63 @@
+-- The groups of a whole number at the front of some bytes, as a relation: what gathering finds, in a form to go by induction on.
+use Prim.Native.Nat.{ℕ, zero, suc, _+_, _%_, _≤_, _<_}
+use mathlib.Core.Path.{_≡_, refl, sym, ap, _∙_}
+use mathlib.Core.List.{List, [], _∷_, _++_}
+use native.Mathlib.Nat.{mod-lt}
+use native.Mathlib.Omega.{arith}
+use lib.ListN.{length, take}
+use lib.Dec.{lit<}
+use mathlib.Core.Logic.{⊎-elim}
+use Rattle.number.specs.Groups.{Gathering, before, gather, radix}
+use Rattle.number.specs.Inside.{AreGroups}
+use Rattle.number.specs.Groups.Gathering.{whole, cut, long}
+use Rattle.number.specs.Inside.AreGroups.{none, more}
+use Rattle.number.proofs.Gathering.{gather-more, gather-last, last-or-more}
+
+-- `Stands k s gs`: a number of at most k groups stands at the front of s, and gs are its groups
+pub data Stands : ℕ → List ℕ → List ℕ → Type 0 where
+  ends : {k b : ℕ} {s : List ℕ} → b < radix → Stands (suc k) (b ∷ s) (b % radix ∷ [])
+  goes-on : {k b : ℕ} {s gs : List ℕ} → radix ≤ b → Stands k s gs → Stands (suc k) (b ∷ s) (b % radix ∷ gs)
+
+pub gathers : {k : ℕ} {s gs : List ℕ} → Stands k s gs → gather k s ≡ whole gs
+gathers (ends {k} {b} {s} h) = gather-last k b s h
+gathers (goes-on {k} {b} {s} h r) = gather-more k b s h ∙ ap (before (b % radix)) (gathers r)
+
+-- a group before what was gathered is whole only before a whole
+before-whole : (g : ℕ) (r : Gathering) (gs : List ℕ) → before g r ≡ whole gs → (hs : List ℕ) × (r ≡ whole hs) × (gs ≡ g ∷ hs)
+before-whole g (whole hs) gs e = (hs, refl, cc)
+before-whole g cut gs e = let z : _≡_ {A = ℕ} 0 1 = cc in absurd (omega arith)
+before-whole g long gs e = let z : _≡_ {A = ℕ} 0 1 = cc in absurd (omega arith)
+
+pub stands : (k : ℕ) (s gs : List ℕ) → gather k s ≡ whole gs → Stands k s gs
+unfolding gather
+stands zero s gs e = let z : _≡_ {A = ℕ} 0 1 = cc in absurd (omega arith)
+stands (suc k) [] gs e = let z : _≡_ {A = ℕ} 0 1 = cc in absurd (omega arith)
+stands (suc k) (b ∷ s) gs e =
+    ⊎-elim
+    (λ h. let q : gs ≡ b % radix ∷ [] = cc (gather-last k b s h) in rw q (ends h))
+    (λ h.
+    let (hs, r, q) = before-whole (b % radix) (gather k s) gs (sym (gather-more k b s h) ∙ e) in
+    rw q (goes-on h (stands k s hs r)))
+    (last-or-more b)
+
+-- ---- what stands is groups, some, no more than there may be, within the bytes
+pub are-groups : {k : ℕ} {s gs : List ℕ} → Stands k s gs → AreGroups gs
+are-groups (ends {b = b} h) = more (mod-lt b (lit< tt)) none
+are-groups (goes-on {b = b} h r) = more (mod-lt b (lit< tt)) (are-groups r)
+
+pub some : {k : ℕ} {s gs : List ℕ} → Stands k s gs → 0 < length gs
+some (ends h) = omega arith
+some (goes-on h r) = omega arith
+
+pub most : {k : ℕ} {s gs : List ℕ} → Stands k s gs → length gs ≤ k
+most (ends h) = omega arith
+most (goes-on h r) = let i = most r in omega arith
+
+pub within : {k : ℕ} {s gs : List ℕ} → Stands k s gs → length gs ≤ length s
+within (ends h) = omega arith
+within (goes-on h r) = let i = within r in omega arith
+
+-- ---- what comes after the number does not matter
+pub alone : {k : ℕ} {s gs : List ℕ} (t : List ℕ) → Stands k s gs → Stands k (take (length gs) s ++ t) gs
+alone t (ends h) = ends h
+alone t (goes-on h r) = goes-on h (alone t r)

@@ -1,0 +1,52 @@
+-- The groups of a number and their value (01, "The period file").
+use Prim.Native.Nat.{ℕ, zero, suc, _+_, _*_, _%_, _-_}
+use mathlib.Core.List.{List, [], _∷_}
+use mathlib.Core.Bool.{Bool, cond, _&&_}
+use lib.ListN.{length, getD}
+use lib.Dec.{leb, ltb, eqb}
+
+-- "At most five groups, at most 4,000,000,000."
+abbrev pub mostGroups : ℕ
+mostGroups = 5
+
+abbrev pub largest : ℕ
+largest = 4_000_000_000
+
+-- "groups of seven bits": a group is below this
+abbrev pub radix : ℕ
+radix = 128
+
+-- "The top bit is 1 when another group follows."
+abbrev pub follows : ℕ → Bool
+follows byte = leb radix byte
+
+-- "one group in a byte": the seven bits below the top one
+abbrev pub group : ℕ → ℕ
+group byte = byte % radix
+
+-- What gathering finds: the groups of a whole number; or that the bytes end first; or that the last group allowed says that another follows.
+pub data Gathering : Type 0 where
+  whole : (groups : List ℕ) → Gathering
+  cut : Gathering
+  long : Gathering
+
+abbrev pub before : ℕ → Gathering → Gathering
+before g (whole gs) = whole (g ∷ gs)
+before g cut = cut
+before g long = long
+
+-- The groups at the front of the bytes, when so many groups are still allowed: up to and with the first after which none follows.
+unfoldable pub gather : ℕ → List ℕ → Gathering
+gather zero bytes = long
+gather (suc allowed) [] = cut
+gather (suc allowed) (byte ∷ bytes) = cond (follows byte) (before (group byte) (gather allowed bytes)) (whole (group byte ∷ []))
+
+-- "least significant group first"
+unfoldable pub value : List ℕ → ℕ
+value [] = 0
+value (g ∷ gs) = value gs * radix + g
+
+-- Not the shortest form: several groups, of which the last is zero.
+-- "Only the shortest form is allowed: a number of several groups doesn't end in a zero group."
+unfoldable pub padded : List ℕ → Bool
+padded groups = ltb 1 (length groups) && eqb (getD groups (length groups - 1) 0) 0

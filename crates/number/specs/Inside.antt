@@ -1,0 +1,32 @@
+-- What the private functions say to each other: the groups gathered so far, in an array. No promise of a public function rests on it.
+use Prim.Native.Nat.{ℕ, _-_, _≤_, _<_}
+use mathlib.Core.Path.{_≡_}
+use mathlib.Core.List.{List, [], _∷_}
+use lib.ListN.{length, getD, take, drop, replicate}
+use Rattle.number.specs.Groups.{Gathering, mostGroups, radix}
+use Rattle.number.specs.Groups.Gathering.{whole, cut, long}
+use Rattle.number.specs.declared.groups.Ending.{Ending}
+use Rattle.number.specs.declared.groups.Ending.the-variants.{Last, Cut, More}
+
+-- each is a group
+pub data AreGroups : List ℕ → Type 0 where
+  none : AreGroups []
+  more : {g : ℕ} {gs : List ℕ} → g < radix → AreGroups gs → AreGroups (g ∷ gs)
+
+-- what an ending says was gathered into the array
+abbrev pub gathered : Ending → List ℕ → Gathering
+gathered (Last count group) groups = whole (take count groups)
+gathered Cut groups = cut
+gathered More groups = long
+
+-- the last of the groups that came is group, and those that did not come are zero
+pub record Counted (count group : ℕ) (groups : List ℕ) : Type 0 where
+  pub within : count ≤ mostGroups
+  pub room : length groups ≡ mostGroups
+  pub at-last : getD groups (count - 1) 0 ≡ group
+  pub zeros : drop count groups ≡ replicate (mostGroups - count) 0
+
+abbrev pub counted : Ending → List ℕ → Type 0
+counted (Last count group) groups = Counted count group groups
+counted Cut groups = Unit {0}
+counted More groups = Unit {0}

@@ -1,0 +1,82 @@
+// The groups of one number: gathered into an array first, its value formed from them afterwards.
+ghost use mathlib.Core.Path.{_≡_};
+ghost use Prim.Native.Nat.{_+_, _^_, _<_};
+ghost use lib.ListN.{length, take, replicate};
+ghost use Rattle.number.specs.Groups.{gather as Groups·gather, value, mostGroups};
+ghost use Rattle.number.specs.Reading.{from, formed};
+ghost use Rattle.number.specs.Answers.{said};
+ghost use Rattle.number.specs.Inside.{AreGroups, Counted, gathered, counted};
+use crate::Number;
+
+// A group has seven bits. A byte of so much or more says that another group follows.
+const RADIX: u64 = 128;
+
+// How the groups of a number ended.
+pub(crate) enum Ending {
+    // The last group came: how many groups there are, and that last one.
+    Last { count: usize, group: u64 },
+    // The bytes end before the last group.
+    Cut,
+    // All the groups that a number may have say that another follows.
+    More,
+}
+
+// Gathers the groups at the front of the bytes, up to the first that says none follows. The groups
+// that do not come stay zero.
+pub(crate) fn gather(bytes: &[u8], groups: &mut [u64; Number::GROUPS]) -> Ending
+    requires { ⌜ now groups ≡ replicate mostGroups 0 ⌝ }
+    ensures { λ r. ⌜ gathered r (now (groups .exit)) ≡ Groups·gather mostGroups (now (bytes .entry)) ⌝ }
+    ensures { λ r. ⌜ counted r (now (groups .exit)) ⌝ }
+{
+    let mut n = 0;
+    while n < Number::GROUPS {
+        if bytes.len() <= n {
+            return Ending::Cut;
+        }
+        let byte = bytes[n] as u64;
+        let group = byte % RADIX;
+        groups[n] = group;
+        n += 1;
+        if byte < RADIX {
+            return Ending::Last { count: n, group };
+        }
+    }
+    Ending::More
+}
+
+// Forms the number that began at a place from its groups, of which the last is group.
+pub(crate) fn form(groups: &[u64; Number::GROUPS], count: usize, group: u64, at: usize) -> Number
+    requires { ⌜ Counted count group (now groups) ⌝ }
+    requires { ⌜ AreGroups (take count (now groups)) ⌝ }
+    requires { ⌜ at + count < 2 ^ 64 ⌝ }
+    ensures { λ r. ⌜ said r ≡ from at (formed (take count (now (groups .entry)))) ⌝ }
+{
+    if 1 < count {
+        if group == 0 {
+            return Number::NotShortest;
+        }
+    }
+    let value = value_of(groups);
+    if Number::LARGEST < value {
+        return Number::TooLarge;
+    }
+    Number::Value {
+        value,
+        next: at + count,
+    }
+}
+
+// The value of the groups. Those that did not come are zero and add nothing.
+fn value_of(groups: &[u64; Number::GROUPS]) -> u64
+    requires { ⌜ length (now groups) ≡ mostGroups ⌝ }
+    requires { ⌜ AreGroups (now groups) ⌝ }
+    ensures { λ r. ⌜ r ≡ value (now (groups .entry)) ⌝ }
+{
+    let mut value = 0;
+    let mut i = Number::GROUPS;
+    while 0 < i {
+        i -= 1;
+        value = value * RADIX + groups[i];
+    }
+    value
+}

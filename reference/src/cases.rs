@@ -1,0 +1,426 @@
+//! The suites of cases for number reading. Every run asks the same ones.
+
+use crate::frames::Case;
+use crate::number::{write_number, LIMIT, MORE_FOLLOW, MOST_GROUPS};
+use crate::seeded::Seeded;
+use std::collections::BTreeSet;
+use std::iter;
+use std::ops::RangeInclusive;
+
+/// Cases that are compared and counted together.
+pub struct Suite {
+    pub name: &'static str,
+    pub cases: Vec<Case>,
+}
+
+/// All suites for number reading.
+pub fn number_suites() -> Vec<Suite> {
+    vec![
+        Suite {
+            name: "numbers, all of one and two bytes",
+            cases: one_and_two_bytes(),
+        },
+        Suite {
+            name: "numbers, all bytes at the edges of three to six",
+            cases: bytes_at_edges(),
+        },
+        Suite {
+            name: "numbers, values at and around every edge",
+            cases: values_at_edges(),
+        },
+        Suite {
+            name: "numbers, places in the file and far past it",
+            cases: places_near_and_far(),
+        },
+        Suite {
+            name: "numbers, seeded whole and damaged",
+            cases: seeded_whole_and_damaged(),
+        },
+    ]
+}
+
+/// Edge bytes of a group that another follows.
+const EDGES_MORE_FOLLOW: [u8; 4] = [0x80, 0x81, 0xFE, 0xFF];
+/// Edge bytes of a last group.
+const EDGES_LAST: [u8; 3] = [0x00, 0x01, 0x7F];
+
+/// All edge bytes, of last groups and of others.
+fn edge_bytes() -> Vec<u8> {
+    [&EDGES_LAST[..], &EDGES_MORE_FOLLOW[..]].concat()
+}
+
+/// The case that asks at the front of a file.
+fn asked_at_front(file: Vec<u8>) -> Case {
+    Case { file, place: 0 }
+}
+
+// Suite: all of one and two bytes.
+
+fn one_and_two_bytes() -> Vec<Case> {
+    let one = all_bytes().map(|byte| vec![byte]);
+    let two = all_bytes().flat_map(|first| all_bytes().map(move |second| vec![first, second]));
+    one.chain(two).map(asked_at_front).collect()
+}
+
+/// The 256 byte values.
+fn all_bytes() -> impl Iterator<Item = u8> {
+    u8::MIN..=u8::MAX
+}
+
+// Suite: all bytes at the edges of three to six.
+
+/// Lengths of the patterns; the longest has a byte after the fifth group, which must not matter.
+const PATTERN_LENGTHS: RangeInclusive<usize> = 3..=MOST_GROUPS + 1;
+/// The byte that stands after the fifth group in the longest patterns.
+const BYTE_AFTER_FIFTH: u8 = 0xFF;
+
+/// Each file stands once, though many patterns lead to the same one.
+fn bytes_at_edges() -> Vec<Case> {
+    let mut files = BTreeSet::new();
+    for length in PATTERN_LENGTHS {
+        files.extend(mixed_patterns(length));
+        for pattern in plain_patterns(length) {
+            files.extend(each_byte_replaced(&pattern));
+        }
+    }
+    files.into_iter().map(asked_at_front).collect()
+}
+
+/// Every mixture of edge bytes in which only the last group may be the end.
+fn mixed_patterns(length: usize) -> Vec<Vec<u8>> {
+    let mut patterns = vec![vec![]];
+    for _ in 1..length.min(MOST_GROUPS) {
+        patterns = each_followed_by(&patterns, &EDGES_MORE_FOLLOW);
+    }
+    brought_to_length(each_followed_by(&patterns, &edge_bytes()), length)
+}
+
+/// Each pattern followed by each of the bytes.
+fn each_followed_by(patterns: &[Vec<u8>], bytes: &[u8]) -> Vec<Vec<u8>> {
+    let mut longer = Vec::new();
+    for pattern in patterns {
+        for &byte in bytes {
+            longer.push([&pattern[..], &[byte]].concat());
+        }
+    }
+    longer
+}
+
+/// The limit, and one edge byte repeated before a last group; few enough to
+/// replace every byte of each.
+fn plain_patterns(length: usize) -> Vec<Vec<u8>> {
+    let mut patterns = vec![write_number(LIMIT)];
+    let groups = length.min(MOST_GROUPS);
+    for more_follow in EDGES_MORE_FOLLOW {
+        let all_but_last = vec![more_follow; groups - 1];
+        patterns.extend(each_followed_by(&[all_but_last], &EDGES_LAST));
+    }
+    brought_to_length(patterns, length)
+}
+
+/// The patterns cut to the length, or filled up to it.
+fn brought_to_length(mut patterns: Vec<Vec<u8>>, length: usize) -> Vec<Vec<u8>> {
+    for pattern in &mut patterns {
+        pattern.resize(length, BYTE_AFTER_FIFTH);
+    }
+    patterns
+}
+
+/// The pattern with each of its bytes replaced by each of the 256 values.
+fn each_byte_replaced(pattern: &[u8]) -> Vec<Vec<u8>> {
+    let mut files = Vec::new();
+    for index in 0..pattern.len() {
+        for byte in all_bytes() {
+            let mut file = pattern.to_vec();
+            file[index] = byte;
+            files.push(file);
+        }
+    }
+    files
+}
+
+// Suite: values at and around every edge.
+
+/// The highest power of two asked for: the first value that needs a sixth group.
+const HIGHEST_POWER: u32 = 35;
+/// How far below and above an edge the values go.
+const AROUND_AN_EDGE: u64 = 2;
+/// Numbers are padded with zero groups up to this many groups.
+const MOST_PADDED_GROUPS: usize = 7;
+/// Bytes before a number, which must not matter.
+const BYTES_BEFORE: [&[u8]; 4] = [&[], &[0x00], &[0xFF], &[0x80, 0x80, 0x80]];
+/// Bytes after a number, which matter only where the number was cut short.
+const BYTES_AFTER: [&[u8]; 5] = [&[], &[0x00], &[0x7F], &[0x80], &[0xFF, 0xFF]];
+
+fn values_at_edges() -> Vec<Case> {
+    let mut cases = Vec::new();
+    for form in edge_values().into_iter().flat_map(forms_of) {
+        for before in BYTES_BEFORE {
+            for after in BYTES_AFTER {
+                cases.push(Case {
+                    file: [before, &form, after].concat(),
+                    place: before.len() as u64,
+                });
+            }
+        }
+    }
+    cases
+}
+
+/// The powers of two (the powers of 128 are among them) and the limit, with
+/// the values around them; 0 and 1 are around the lowest power.
+fn edge_values() -> BTreeSet<u64> {
+    let powers = (0..=HIGHEST_POWER).map(|power| 1_u64 << power);
+    let edges = powers.chain([LIMIT]);
+    edges
+        .flat_map(|edge| edge.saturating_sub(AROUND_AN_EDGE)..=edge + AROUND_AN_EDGE)
+        .collect()
+}
+
+/// A value in its shortest form, padded to every greater length, and cut
+/// short to every smaller one.
+fn forms_of(value: u64) -> Vec<Vec<u8>> {
+    let shortest = write_number(value);
+    let padded = (shortest.len() + 1..=MOST_PADDED_GROUPS).map(|groups| padded(&shortest, groups));
+    let cut = (0..shortest.len()).map(|groups| shortest[..groups].to_vec());
+    padded.chain(cut).chain([shortest.clone()]).collect()
+}
+
+/// The same value in more groups than it needs, the added ones zero.
+fn padded(shortest: &[u8], groups: usize) -> Vec<u8> {
+    let mut bytes = shortest.to_vec();
+    bytes.resize(groups, 0);
+    for byte in &mut bytes[..groups - 1] {
+        *byte |= MORE_FOLLOW;
+    }
+    bytes
+}
+
+// Suite: places in the file and far past it.
+
+/// The longest file whose every place is asked for.
+const LONGEST_PLACED_FILE: usize = 8;
+/// How far past the end of a file the near places go.
+const NEAR_PAST_END: usize = 3;
+/// Places at which a narrower or a signed number would turn over.
+const TURNING_PLACES: [u64; 5] = [1 << 8, 1 << 16, 1 << 31, 1 << 32, 1 << 63];
+/// How far below and above a turning place the far places go: so far that a
+/// place turned over would fall on every byte of the file.
+const AROUND_A_TURN: u64 = LONGEST_PLACED_FILE as u64;
+/// Bytes repeated to fill a file, so that every answer is met.
+const REPEATED: [&[u8]; 10] = [
+    &[0x00],
+    &[0x01],
+    &[0x7F],
+    &[0x80],
+    &[0xFF],
+    &[0x80, 0x00],
+    &[0xFF, 0x01],
+    &[0x80, 0xD0, 0xAC, 0xF3, 0x0E],
+    &[0x81, 0xD0, 0xAC, 0xF3, 0x0E],
+    &[0x80, 0x80, 0x80, 0x80, 0x00],
+];
+/// How many seeded files of each length are asked besides.
+const SEEDED_FILES: usize = 200;
+/// The seed of those files.
+const SEED_OF_PLACES: u64 = 0x5EED_0001;
+
+/// Far places are asked of the repeated bytes only: no byte of the file should
+/// matter there, and these show it when one does.
+fn places_near_and_far() -> Vec<Case> {
+    let mut seeded = Seeded::new(SEED_OF_PLACES);
+    let mut cases = Vec::new();
+    for length in 0..=LONGEST_PLACED_FILE {
+        for run in REPEATED {
+            let file: Vec<u8> = run.iter().copied().cycle().take(length).collect();
+            cases.extend(asked_at_each(&file, near_places(length)));
+            cases.extend(asked_at_each(&file, far_places()));
+        }
+        for _ in 0..SEEDED_FILES {
+            let file = seeded_bytes(&mut seeded, length);
+            cases.extend(asked_at_each(&file, near_places(length)));
+        }
+    }
+    cases
+}
+
+/// The cases that ask at each of the places of one file.
+fn asked_at_each(file: &[u8], places: impl Iterator<Item = u64>) -> Vec<Case> {
+    let asked_at = |place| Case {
+        file: file.to_vec(),
+        place,
+    };
+    places.map(asked_at).collect()
+}
+
+/// Every place of a file, its end, and some places past it.
+fn near_places(length: usize) -> impl Iterator<Item = u64> {
+    0..=(length + NEAR_PAST_END) as u64
+}
+
+/// The places around each turn, and the last of all 64-bit numbers.
+fn far_places() -> impl Iterator<Item = u64> {
+    let turns = TURNING_PLACES.into_iter();
+    let around_turns = turns.flat_map(|turn| turn - AROUND_A_TURN..=turn + AROUND_A_TURN);
+    around_turns.chain(u64::MAX - AROUND_A_TURN..=u64::MAX)
+}
+
+// Suite: seeded whole and damaged.
+
+/// How many seeded cases there are.
+const SEEDED_CASES: usize = 100_000;
+/// The seed of these cases.
+const SEED_OF_DAMAGE: u64 = 0x5EED_0002;
+/// The longest file of most cases.
+const LONGEST_FILE: usize = 40;
+/// The longest file of the few long ones.
+const LONGEST_LONG_FILE: usize = 4_000;
+/// One case in this many has a long file.
+const CASES_TO_A_LONG_ONE: usize = 500;
+/// One case in this many asks at any place, the others where the number starts.
+const CASES_TO_ANY_PLACE: usize = 5;
+/// One seeded byte in this many is an edge byte, the others are any byte.
+const BYTES_TO_AN_EDGE: usize = 4;
+
+/// What is done to a file that holds a whole number.
+#[derive(Clone, Copy)]
+enum Damage {
+    Nothing,
+    ByteReplaced,
+    BitFlipped,
+    ByteDropped,
+    CutShort,
+    AllReplaced,
+}
+
+/// All kinds of damage, each as likely as the others.
+const DAMAGES: [Damage; 6] = [
+    Damage::Nothing,
+    Damage::ByteReplaced,
+    Damage::BitFlipped,
+    Damage::ByteDropped,
+    Damage::CutShort,
+    Damage::AllReplaced,
+];
+
+fn seeded_whole_and_damaged() -> Vec<Case> {
+    let mut seeded = Seeded::new(SEED_OF_DAMAGE);
+    iter::repeat_with(|| seeded_case(&mut seeded))
+        .take(SEEDED_CASES)
+        .collect()
+}
+
+/// A number amid seeded bytes, damaged or not, mostly asked where it starts.
+fn seeded_case(seeded: &mut Seeded) -> Case {
+    let longest = if seeded.one_in(CASES_TO_A_LONG_ONE) {
+        LONGEST_LONG_FILE
+    } else {
+        LONGEST_FILE
+    };
+    let number = write_number(seeded_value(seeded));
+    let start = seeded.up_to(longest - number.len());
+    let length_after = seeded.up_to(longest - number.len() - start);
+
+    let before = seeded_bytes(seeded, start);
+    let after = seeded_bytes(seeded, length_after);
+    let mut file = [before, number.clone(), after].concat();
+    let hit = start + seeded.up_to(number.len() - 1);
+    damage(&mut file, hit, seeded);
+
+    let place = if seeded.one_in(CASES_TO_ANY_PLACE) {
+        seeded.up_to(file.len())
+    } else {
+        start
+    };
+    Case {
+        file,
+        place: place as u64,
+    }
+}
+
+/// Does some damage to the byte at `hit`, to the file from there on, or to all of it.
+fn damage(file: &mut Vec<u8>, hit: usize, seeded: &mut Seeded) {
+    match seeded.pick(&DAMAGES) {
+        Damage::Nothing => {}
+        Damage::ByteReplaced => file[hit] = seeded_byte(seeded),
+        Damage::BitFlipped => file[hit] ^= 1 << seeded.up_to(u8::BITS as usize - 1),
+        Damage::ByteDropped => {
+            file.remove(hit);
+        }
+        Damage::CutShort => file.truncate(hit),
+        Damage::AllReplaced => *file = seeded_bytes(seeded, file.len()),
+    }
+}
+
+/// A value of any bit length that five groups hold, also above the limit.
+fn seeded_value(seeded: &mut Seeded) -> u64 {
+    let bits = seeded.up_to(HIGHEST_POWER as usize);
+    seeded.bits() & ((1 << bits) - 1)
+}
+
+fn seeded_bytes(seeded: &mut Seeded, length: usize) -> Vec<u8> {
+    iter::repeat_with(|| seeded_byte(seeded))
+        .take(length)
+        .collect()
+}
+
+/// A byte, now and then one of the edge bytes, since zero groups are rare otherwise.
+fn seeded_byte(seeded: &mut Seeded) -> u8 {
+    if seeded.one_in(BYTES_TO_AN_EDGE) {
+        seeded.pick(&edge_bytes())
+    } else {
+        seeded.byte()
+    }
+}
+
+#[cfg(test)]
+mod tests {
+    use super::*;
+    use crate::number::{read_number, Reading};
+
+    #[test]
+    fn every_run_asks_the_same_cases() {
+        for (once, again) in number_suites().iter().zip(number_suites()) {
+            assert!(once.cases == again.cases, "{}", once.name);
+        }
+    }
+
+    #[test]
+    fn what_reads_in_any_case_is_the_written_form() {
+        for Suite { name, cases } in number_suites() {
+            for Case { file, place } in cases {
+                if let Reading::Number { value, next } = read_number(&file, place) {
+                    let bytes = &file[place as usize..next as usize];
+                    assert_eq!(write_number(value), bytes, "{name}");
+                }
+            }
+        }
+    }
+
+    #[test]
+    fn edge_values_hold_both_ends() {
+        let values = edge_values();
+        for value in [0, 1, 127, 128, 16_383, 16_384, LIMIT, LIMIT + 1, 1 << 35] {
+            assert!(values.contains(&value), "value {value}");
+        }
+    }
+
+    #[test]
+    fn padding_adds_zero_groups_only() {
+        assert_eq!(padded(&[0x7F], 2), [0xFF, 0x00]);
+        assert_eq!(padded(&[0xAC, 0x02], 4), [0xAC, 0x82, 0x80, 0x00]);
+    }
+
+    #[test]
+    fn seeded_files_keep_their_lengths() {
+        let cases = seeded_whole_and_damaged();
+        assert_eq!(cases.len(), SEEDED_CASES);
+        let long = |case: &&Case| case.file.len() > LONGEST_FILE;
+        let long_files = cases.iter().filter(long).count();
+        assert!((1..SEEDED_CASES / 100).contains(&long_files));
+        assert!(cases
+            .iter()
+            .all(|case| case.file.len() <= LONGEST_LONG_FILE));
+        assert!(cases.iter().any(|case| case.file.is_empty()));
+    }
+}
