@@ -10,6 +10,7 @@ use Rattle.number.specs.Groups.{Gathering, gather, padded, value, mostGr
 use Rattle.number.specs.Groups.Gathering.{whole, cut, long}
 use Rattle.number.specs.Reading.{Answer, from, formed, answer, reading, readAt, ends, notShortest, tooLarge}
 use Rattle.number.specs.Reading.Answer.{number, fault}
+use Rattle.number.proofs.Gathering.{clash}
 use Rattle.number.proofs.Forming.{FormedAs, formed-as}
 use Rattle.number.proofs.Forming.FormedAs.{is-padded, is-large, is-number}
 use Rattle.number.proofs.Standing.{Stands, stands, gathers}
@@ -28,7 +29,7 @@ pub record Formed (groups : List ℕ) (v n : ℕ) : Type 0 where
 
 -- a fault is no number
 pub never : {v n k : ℕ} → fault k ≡ number v n → ⊥
-never e = let z : _≡_ {A = ℕ} 0 1 = cc in omega arith
+never e = clash (cc)
 
 formed-inv : (groups : List ℕ) (v n : ℕ) (a : Answer) → FormedAs groups a → a ≡ number v n → Formed groups v n
 formed-inv groups v n a (is-padded p) e = absurd (never e)

@@ -2,19 +2,19 @@
 use Prim.Native.Nat.{ℕ, suc, _-_, _≤_, _<_}
 use mathlib.Core.Path.{_≡_, refl, sym, ap, ap₂, _∙_}
 use mathlib.Core.List.{List, [], _∷_, _++_}
-use native.Mathlib.Numerals.{sub-one}
 use mathlib.Core.Bool.{Bool, true, false, and-false}
+use native.Mathlib.Numerals.{sub-one}
 use native.Mathlib.Decide.{decLe}
+use native.Mathlib.Omega.{arith}
 use lib.ListN.{length, getD, take, replicate, take-append-drop}
 use lib.Seq.{getD-take, length-take-le}
-use native.Mathlib.Omega.{arith}
 use lib.Dec.{ltb}
 use borrow.Author.Tests.{lt-ltb, le-ltb, le-leb, lt-leb, eq-eqb, ne-eqb}
 use Rattle.number.specs.Groups.{value, padded, mostGroups, largest}
 use Rattle.number.specs.Inside.{AreGroups, Counted}
-use Rattle.number.proofs.Values.{value-zeros, groups-zeros}
 use Rattle.number.specs.Reading.{Answer, formed, notShortest, tooLarge}
 use Rattle.number.specs.Reading.Answer.{number, fault}
+use Rattle.number.proofs.Values.{value-zeros, groups-zeros}
 
 abbrev pub last : List ℕ → ℕ
 last gs = getD gs (length gs - 1) 0
@@ -71,11 +71,11 @@ module _ (count group : ℕ) (groups : List ℕ) (c : Counted count group groups
   counted-length : length (take count groups) ≡ count
   counted-length = length-take-le count groups (omega arith)
 
-  last-is : 1 < count → last (take count groups) ≡ group
-  last-is several = rw (counted-length, getD-take count groups (count - 1) 0 (omega arith)) (c .at-last)
+  last-is : 0 < count → last (take count groups) ≡ group
+  last-is some = rw (counted-length, getD-take count groups (count - 1) 0 (omega arith)) (c .at-last)
 
   all-is : groups ≡ take count groups ++ replicate (mostGroups - count) 0
-  all-is = sym (take-append-drop count groups) ∙ ap (λ (rest : List ℕ). take count groups ++ rest) (c .zeros)
+  all-is = sym (take-append-drop count groups) ∙ ap (λ (rest : List ℕ). take count groups ++ rest) (c .came .zeros)
 
   pub all-groups : AreGroups (take count groups) → AreGroups groups
   all-groups r = rw all-is (groups-zeros (mostGroups - count) r)
@@ -85,13 +85,13 @@ module _ (count group : ℕ) (groups : List ℕ) (c : Counted count group groups
 
   pub zero-last : 1 < count → group ≡ 0 → formed (take count groups) ≡ fault notShortest
   zero-last several z =
-      formed-padded (take count groups) (padded-zero (take count groups) (rw counted-length several) (last-is several ∙ z))
+      formed-padded (take count groups) (padded-zero (take count groups) (rw counted-length several) (last-is (omega arith) ∙ z))
 
   pub single : count ≤ 1 → padded (take count groups) ≡ false
   single h = padded-single (take count groups) (rw counted-length h)
 
-  pub other-last : 1 < count → (group ≡ 0 → ⊥) → padded (take count groups) ≡ false
-  other-last several h = padded-other (take count groups) (λ z. h (sym (last-is several) ∙ z))
+  pub other-last : 0 < count → (group ≡ 0 → ⊥) → padded (take count groups) ≡ false
+  other-last some h = padded-other (take count groups) (λ z. h (sym (last-is some) ∙ z))
 
   pub too-large : padded (take count groups) ≡ false → largest < value groups → formed (take count groups) ≡ fault tooLarge
   too-large p h = formed-large (take count groups) p (rw value-all at h)

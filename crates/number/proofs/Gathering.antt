@@ -6,13 +6,17 @@ use mathlib.Core.Bool.{cond}
 use mathlib.Core.Logic.{_⊎_, inl, inr, ⊎-elim}
 use native.Mathlib.Decide.{decLe}
 use native.Mathlib.Omega.{arith}
+use native.Mathlib.Numerals.{sub-one}
 use lib.ListN.{length, getD, take, drop, set, replicate, drop-of-length-le, length-set}
 use lib.Seq.{drop-cons, take-suc-set, drop-set-lt, getD-set-same}
-use native.Mathlib.Numerals.{sub-one}
 use borrow.Author.Tests.{le-leb, lt-leb}
 use Rattle.number.specs.Groups.{Gathering, before, gather, follows, group, mostGroups, radix}
 use Rattle.number.specs.Groups.Gathering.{whole, cut, long}
-use Rattle.number.specs.Inside.{Counted}
+use Rattle.number.specs.Inside.{Came, Counted}
+
+-- two constructors are never equal: `clash (cc)` is the case that cannot be
+pub clash : {A : Type 0} → _≡_ {A = ℕ} 0 1 → A
+clash z = absurd (omega arith)
 
 -- ---- one group
 pub gather-more : (k b : ℕ) (s : List ℕ) → radix ≤ b → gather (suc k) (b ∷ s) ≡ before (b % radix) (gather k s)
@@ -66,26 +70,20 @@ unfolding prepend
 prepend-whole [] hs = refl
 prepend-whole (g ∷ gs) hs = ap (before g) (prepend-whole gs hs)
 
-pub prepend-cut : (gs : List ℕ) → prepend gs cut ≡ cut
+-- an end that a group in front does not change
+prepend-end : (r : Gathering) → ((g : ℕ) → before g r ≡ r) → (gs : List ℕ) → prepend gs r ≡ r
 unfolding prepend
-prepend-cut [] = refl
-prepend-cut (g ∷ gs) = ap (before g) (prepend-cut gs)
-
-pub prepend-long : (gs : List ℕ) → prepend gs long ≡ long
-unfolding prepend
-prepend-long [] = refl
-prepend-long (g ∷ gs) = ap (before g) (prepend-long gs)
+prepend-end r same [] = refl
+prepend-end r same (g ∷ gs) = ap (before g) (prepend-end r same gs) ∙ same g
 
 -- ---- the loop: the first n groups have come, each saying that another follows
 pub record Gathers (bytes groups : List ℕ) (n : ℕ) : Type 0 where
-  pub within : n ≤ mostGroups
-  pub room : length groups ≡ mostGroups
-  pub zeros : drop n groups ≡ replicate (mostGroups - n) 0
+  pub came : Came n groups
   pub whole-is : gather mostGroups bytes ≡ prepend (take n groups) (gather (mostGroups - n) (drop n bytes))
 
 pub start : (bytes groups : List ℕ) → groups ≡ replicate mostGroups 0 → Gathers bytes groups 0
 unfolding prepend
-start bytes groups e = record { within = omega arith; room = ap length e; zeros = e; whole-is = refl }
+start bytes groups e = record { came = record { within = omega arith; room = ap length e; zeros = e }; whole-is = refl }
 
 module _ (bytes groups : List ℕ) (n : ℕ) (g : Gathers bytes groups n) (below : n < mostGroups) where
   left : mostGroups - n ≡ suc (mostGroups - suc n)
@@ -95,11 +93,11 @@ module _ (bytes groups : List ℕ) (n : ℕ) (g : Gathers bytes groups n) (below
   unfolding gather
   cut-is h =
       g .whole-is
-      ∙ rw (left, drop-of-length-le bytes h) (prepend-cut (take n groups))
+      ∙ rw (left, drop-of-length-le bytes h) (prepend-end cut (λ g. refl) (take n groups))
 
   module _ (more-bytes : n < length bytes) where
     here : n < length groups
-    here = rw (g .room) below
+    here = rw (g .came .room) below
 
     abbrev pub byte : ℕ
     byte = getD bytes n 0
@@ -110,18 +108,20 @@ module _ (bytes groups : List ℕ) (n : ℕ) (g : Gathers bytes groups n) (below
     behind : drop (suc n) groups ≡ replicate (mostGroups - suc n) 0
     behind =
         let front : getD groups n 0 ∷ drop (suc n) groups ≡ 0 ∷ replicate (mostGroups - suc n) 0 =
-        sym (drop-cons groups n 0 here) ∙ g .zeros ∙ rw left in
+        sym (drop-cons groups n 0 here) ∙ g .came .zeros ∙ rw left in
         cc
 
     -- the group is stored, and what lies behind it is still zero
-    pub stored-counted : Counted (suc n) (byte % radix) stored
-    stored-counted =
+    stored-came : Came (suc n) stored
+    stored-came =
         record {
           within = omega arith;
-          room = length-set groups n (byte % radix) ∙ g .room;
-          at-last = rw (sub-one (suc n)) (getD-set-same groups n (byte % radix) 0 here);
+          room = length-set groups n (byte % radix) ∙ g .came .room;
           zeros = drop-set-lt (suc n) groups n (byte % radix) (omega arith) ∙ behind;
         }
+
+    pub stored-counted : Counted (suc n) (byte % radix) stored
+    stored-counted = record { came = stored-came; at-last = rw (sub-one (suc n)) (getD-set-same groups n (byte % radix) 0 here) }
 
     pub last-is : byte < radix → gather mostGroups bytes ≡ whole (take (suc n) stored)
     last-is h =
@@ -133,9 +133,7 @@ module _ (bytes groups : List ℕ) (n : ℕ) (g : Gathers bytes groups n) (below
     pub turn : radix ≤ byte → Gathers bytes stored (suc n)
     turn h =
         record {
-          within = omega arith;
-          room = stored-counted .room;
-          zeros = stored-counted .zeros;
+          came = stored-came;
           whole-is =
               g .whole-is
               ∙ rw (
@@ -151,4 +149,4 @@ pub more-is : (bytes groups : List ℕ) (n : ℕ) → Gathers bytes groups n →
 unfolding gather
 more-is bytes groups n g h =
     let all : mostGroups - n ≡ 0 = omega arith in
-    g .whole-is ∙ rw all (prepend-long (take n groups))
+    g .whole-is ∙ rw all (prepend-end long (λ g. refl) (take n groups))

@@ -4,11 +4,11 @@ use mathlib.Core.Path.{_≡_, refl, sym, ap, _∙_}
 use mathlib.Core.List.{List}
 use mathlib.Core.Bool.{cond}
 use lib.Dec.{eqb}
+use Rattle.number.specs.declared.Number.{Number}
+use Rattle.number.specs.declared.Number.the-variants.{Value, Ends, NotShortest, TooLarge}
 use Rattle.number.specs.Reading.{Answer, readAt, ends, notShortest}
 use Rattle.number.specs.Reading.Answer.{number, fault}
 use Rattle.number.specs.Answers.{said, refusalOf}
-use Rattle.number.specs.declared.Number.{Number}
-use Rattle.number.specs.declared.Number.the-variants.{Value, Ends, NotShortest, TooLarge}
 
 -- the answer that says it
 unsaid : Answer → Number

@@ -2,16 +2,16 @@
 use Prim.Native.Nat.{ℕ, zero, suc, _+_, _%_, _≤_, _<_}
 use mathlib.Core.Path.{_≡_, refl, sym, ap, _∙_}
 use mathlib.Core.List.{List, [], _∷_, _++_}
+use mathlib.Core.Logic.{⊎-elim}
 use native.Mathlib.Nat.{mod-lt}
 use native.Mathlib.Omega.{arith}
 use lib.ListN.{length, take}
 use lib.Dec.{lit<}
-use mathlib.Core.Logic.{⊎-elim}
 use Rattle.number.specs.Groups.{Gathering, before, gather, radix}
 use Rattle.number.specs.Inside.{AreGroups}
 use Rattle.number.specs.Groups.Gathering.{whole, cut, long}
 use Rattle.number.specs.Inside.AreGroups.{none, more}
-use Rattle.number.proofs.Gathering.{gather-more, gather-last, last-or-more}
+use Rattle.number.proofs.Gathering.{clash, gather-more, gather-last, last-or-more}
 
 -- `Stands k s gs`: a number of at most k groups stands at the front of s, and gs are its groups
 pub data Stands : ℕ → List ℕ → List ℕ → Type 0 where
@@ -25,13 +25,13 @@ gathers (goes-on {k} {b} {s} h r) = gather-more k b s h ∙ ap (before (b % radi
 -- a group before what was gathered is whole only before a whole
 before-whole : (g : ℕ) (r : Gathering) (gs : List ℕ) → before g r ≡ whole gs → (hs : List ℕ) × (r ≡ whole hs) × (gs ≡ g ∷ hs)
 before-whole g (whole hs) gs e = (hs, refl, cc)
-before-whole g cut gs e = let z : _≡_ {A = ℕ} 0 1 = cc in absurd (omega arith)
-before-whole g long gs e = let z : _≡_ {A = ℕ} 0 1 = cc in absurd (omega arith)
+before-whole g cut gs e = clash (cc)
+before-whole g long gs e = clash (cc)
 
 pub stands : (k : ℕ) (s gs : List ℕ) → gather k s ≡ whole gs → Stands k s gs
 unfolding gather
-stands zero s gs e = let z : _≡_ {A = ℕ} 0 1 = cc in absurd (omega arith)
-stands (suc k) [] gs e = let z : _≡_ {A = ℕ} 0 1 = cc in absurd (omega arith)
+stands zero s gs e = clash (cc)
+stands (suc k) [] gs e = clash (cc)
 stands (suc k) (b ∷ s) gs e =
     ⊎-elim
     (λ h. let q : gs ≡ b % radix ∷ [] = cc (gather-last k b s h) in rw q (ends h))

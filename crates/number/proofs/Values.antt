@@ -9,23 +9,23 @@ use lib.Seq.{drop-cons}
 use lib.Pow.{pow-add, pow-mono}
 use lib.Arith.{digits-lt}
 use lib.Dec.{lit<}
-use Rattle.number.specs.Groups.{value, mostGroups, radix}
+use Rattle.number.specs.Groups.{value, mostGroups, groupBits, radix}
 use Rattle.number.specs.Inside.{AreGroups}
 use Rattle.number.specs.Inside.AreGroups.{none, more}
 
--- n groups of seven bits make a number of 7 n bits
-pub value-lt : {gs : List ℕ} → AreGroups gs → value gs < 2 ^ (7 * length gs)
+-- so many groups, so many times seven bits
+pub value-lt : {gs : List ℕ} → AreGroups gs → value gs < 2 ^ (groupBits * length gs)
 unfolding value
 value-lt none = lit< tt
-value-lt (more {gs = gs} h r) = rw (mul-suc 7 (length gs), pow-add 2 (7 * length gs) 7) (digits-lt (value-lt r) h)
+value-lt (more {gs = gs} h r) = rw (mul-suc groupBits (length gs), pow-add 2 (groupBits * length gs) groupBits) (digits-lt (value-lt r) h)
 
 pub groups-drop : (n : ℕ) {gs : List ℕ} → AreGroups gs → AreGroups (drop n gs)
 groups-drop zero r = r
 groups-drop (suc n) none = none
 groups-drop (suc n) (more h r) = groups-drop n r
 
-pub bounded : {gs : List ℕ} → AreGroups gs → length gs ≤ mostGroups → value gs < 2 ^ 35
-bounded r h = lt-of-lt-of-le (value-lt r) (pow-mono {j = 35} (omega arith))
+pub bounded : {gs : List ℕ} → AreGroups gs → length gs ≤ mostGroups → value gs < 2 ^ (groupBits * mostGroups)
+bounded r h = lt-of-lt-of-le (value-lt r) (pow-mono {j = groupBits * mostGroups} (omega arith))
 
 -- one group in front is one digit less significant
 pub value-drop : (gs : List ℕ) (i : ℕ) → i < length gs → value (drop i gs) ≡ value (drop (suc i) gs) * radix + getD gs i 0
@@ -54,7 +54,7 @@ unfolding value
 start groups n e = record { within = omega arith; value-is = sym (ap value (drop-of-length-le groups {i = n} (omega arith))) }
 
 module _ (groups : List ℕ) (v i : ℕ) (f : Forms groups v i) where
-  pub small : AreGroups groups → length groups ≡ mostGroups → v < 2 ^ 35
+  pub small : AreGroups groups → length groups ≡ mostGroups → v < 2 ^ (groupBits * mostGroups)
   small r h = rw (f .value-is) (bounded (groups-drop i r) (omega (arith, length-drop i groups)))
 
   pub turn : 0 < i → Forms groups (v * radix + getD groups (i - 1) 0) (i - 1)

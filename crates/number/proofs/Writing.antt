@@ -12,7 +12,7 @@ use lib.Seq.{drop-append-seam, getD-drop, drop-drop, length-take-le}
 use lib.Pow.{pow-add}
 use lib.Dec.{lit<}
 use borrow.Author.Tests.{lt-ltb, le-ltb}
-use Rattle.number.specs.Groups.{value, padded, radix, group, mostGroups, largest}
+use Rattle.number.specs.Groups.{value, padded, groupBits, radix, group, mostGroups, largest}
 use Rattle.number.specs.Writing.{writing, written, AreBytes}
 use Rattle.number.specs.Reading.{reading, readAt, from}
 use Rattle.number.specs.Reading.Answer.{number}
@@ -69,18 +69,18 @@ one-more k v t h w =
     }
 
 -- a number that takes more than one group is allowed more than one
-more-allowed : (k v : ℕ) → radix ≤ v → v < 2 ^ (7 * suc k) → 0 < k
+more-allowed : (k v : ℕ) → radix ≤ v → v < 2 ^ (groupBits * suc k) → 0 < k
 more-allowed zero v h b = absurd (omega arith)
 more-allowed (suc k) v h b = omega arith
 
-stands-written : (k v : ℕ) (t : List ℕ) → 0 < k → v < 2 ^ (7 * k) → Written k v t
+stands-written : (k v : ℕ) (t : List ℕ) → 0 < k → v < 2 ^ (groupBits * k) → Written k v t
 stands-written zero v t h b = absurd (omega arith)
 stands-written (suc k) v t h b = by-size (decLt v radix) (stands-written k (v / radix) t)
   where
-    seven : 2 ^ (7 * suc k) ≡ 2 ^ (7 * k) * radix
-    seven = rw (mul-suc 7 k, pow-add 2 (7 * k) 7)
+    seven : 2 ^ (groupBits * suc k) ≡ 2 ^ (groupBits * k) * radix
+    seven = rw (mul-suc groupBits k, pow-add 2 (groupBits * k) groupBits)
 
-    by-size : Dec (v < radix) → (0 < k → v / radix < 2 ^ (7 * k) → Written k (v / radix) t) → Written (suc k) v t
+    by-size : Dec (v < radix) → (0 < k → v / radix < 2 ^ (groupBits * k) → Written k (v / radix) t) → Written (suc k) v t
     by-size (yes small) rest = one-last k v t small
     by-size (no large) rest = one-more k v t (omega arith) (rest (more-allowed k v (omega arith) b) (div-lt-iff-lt-mul (lit< tt) .1 (rw seven at b)))
 

@@ -1,9 +1,9 @@
 -- What each case of the code's answer says in 01's terms.
 use Prim.Native.Nat.{ℕ}
-use Rattle.number.specs.Reading.{Answer, ends, notShortest, tooLarge}
-use Rattle.number.specs.Reading.Answer.{number, fault}
 use Rattle.number.specs.declared.Number.{Number}
 use Rattle.number.specs.declared.Number.the-variants.{Value, Ends, NotShortest, TooLarge}
+use Rattle.number.specs.Reading.{Answer, ends, notShortest, tooLarge}
+use Rattle.number.specs.Reading.Answer.{number, fault}
 
 abbrev pub said : Number → Answer
 said (Value value next) = number value next

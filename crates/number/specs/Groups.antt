@@ -1,5 +1,5 @@
 -- The groups of a number and their value (01, "The period file").
-use Prim.Native.Nat.{ℕ, zero, suc, _+_, _*_, _%_, _-_}
+use Prim.Native.Nat.{ℕ, zero, suc, _+_, _-_, _*_, _%_, _^_}
 use mathlib.Core.List.{List, [], _∷_}
 use mathlib.Core.Bool.{Bool, cond, _&&_}
 use lib.ListN.{length, getD}
@@ -12,9 +12,12 @@ mostGroups = 5
 abbrev pub largest : ℕ
 largest = 4_000_000_000
 
--- "groups of seven bits": a group is below this
+-- "Numbers stand in groups of seven bits": a group is below the radix
+abbrev pub groupBits : ℕ
+groupBits = 7
+
 abbrev pub radix : ℕ
-radix = 128
+radix = 2 ^ groupBits
 
 -- "The top bit is 1 when another group follows."
 abbrev pub follows : ℕ → Bool

@@ -3,10 +3,10 @@ use Prim.Native.Nat.{ℕ, _-_, _≤_, _<_}
 use mathlib.Core.Path.{_≡_}
 use mathlib.Core.List.{List, [], _∷_}
 use lib.ListN.{length, getD, take, drop, replicate}
-use Rattle.number.specs.Groups.{Gathering, mostGroups, radix}
-use Rattle.number.specs.Groups.Gathering.{whole, cut, long}
 use Rattle.number.specs.declared.groups.Ending.{Ending}
 use Rattle.number.specs.declared.groups.Ending.the-variants.{Last, Cut, More}
+use Rattle.number.specs.Groups.{Gathering, mostGroups, radix}
+use Rattle.number.specs.Groups.Gathering.{whole, cut, long}
 
 -- each is a group
 pub data AreGroups : List ℕ → Type 0 where
@@ -19,12 +19,16 @@ gathered (Last count group) groups = whole (take count groups)
 gathered Cut groups = cut
 gathered More groups = long
 
--- the last of the groups that came is group, and those that did not come are zero
-pub record Counted (count group : ℕ) (groups : List ℕ) : Type 0 where
+-- the first count groups came, and the rest of the array is zero
+pub record Came (count : ℕ) (groups : List ℕ) : Type 0 where
   pub within : count ≤ mostGroups
   pub room : length groups ≡ mostGroups
-  pub at-last : getD groups (count - 1) 0 ≡ group
   pub zeros : drop count groups ≡ replicate (mostGroups - count) 0
+
+-- and the last of them is group
+pub record Counted (count group : ℕ) (groups : List ℕ) : Type 0 where
+  pub came : Came count groups
+  pub at-last : getD groups (count - 1) 0 ≡ group
 
 abbrev pub counted : Ending → List ℕ → Type 0
 counted (Last count group) groups = Counted count group groups

@@ -2,9 +2,9 @@
 use Prim.Native.Nat.{_-_}
 use mathlib.Core.Path.{_≡_, sym, ap, _∙_}
 use native.Mathlib.Omega.{arith}
-use denote.Ref.{now}
 use lib.ListN.{length, take, drop, length-take, length-drop}
 use lib.Seq.{take-all}
+use denote.Ref.{now}
 use borrow.Author.Needs.{needs}
 use Rattle.number.specs.declared.groups.Ending.{Ending}
 use Rattle.number.specs.declared.groups.Ending.the-variants.{Last, Cut, More}
@@ -63,7 +63,7 @@ form-requires c κs =
       known,
       (
         are-groups standing,
-        omega (arith, known .within, known .room, within standing, length-take n groups, length-drop (s .args .at) (now (s .args .file)), s .good),
+        omega (arith, known .came, within standing, length-take n groups, length-drop (s .args .at) (now (s .args .file)), s .good),
       ),
     )
 

@@ -1,7 +1,7 @@
 -- `numbers::answer` is safe and ends: the part of the buffer that is lent is as long as the case's count. Assumes nothing.
 use native.Mathlib.Omega.{arith}
-use denote.Ref.{now}
 use lib.ListN.{length-take}
+use denote.Ref.{now}
 use borrow.Author.Needs.{needs}
 use Rattle.numbers.proofs.answer.Statement.{statement}
 use Rattle.numbers.proofs.answer.Tie as tie

@@ -1,9 +1,10 @@
--- `number::groups::value_of` meets its contract. The invariant, `Forms`: the value is that of the groups from i on. What a turn forms is
--- below 2 ^ 35, so nothing wraps. Assumes nothing.
+-- `number::groups::value_of` meets its contract. The invariant, `Forms`: the value is that of the groups from i on. What a turn forms has
+-- no more bits than five groups have, so nothing wraps. Assumes nothing.
 use Prim.Native.Nat.{_+_, _-_, _*_, _^_, _<_}
-use denote.Ref.{now}
-use lib.ListN.{getD}
 use native.Mathlib.Omega.{arith}
+use lib.ListN.{getD}
+use denote.Ref.{now}
+use Rattle.number.specs.Groups.{mostGroups, groupBits}
 use Rattle.number.proofs.Values.{Forms, start, small, turn, end}
 use Rattle.number.proofs.groups.value_of.Statement.{statement}
 use Rattle.number.proofs.groups.value_of.Tie as tie
@@ -19,7 +20,7 @@ turned : (c : tie.In-loop Inv-loop μ-loop) → Forms (now (c .before .before .a
 turned c = turn _ _ _ (c .before .loop .inv) (c .loop-test .taken)
 
 -- and what it forms is small
-formed-small : (c : tie.In-loop Inv-loop μ-loop) → c .before .loop .value * 128 + getD (now (c .before .before .args .groups)) (c .before .loop .i - 1) 0 < 2 ^ 35
+formed-small : (c : tie.In-loop Inv-loop μ-loop) → c .before .loop .value * 128 + getD (now (c .before .before .args .groups)) (c .before .loop .i - 1) 0 < 2 ^ (groupBits * mostGroups)
 formed-small c = small _ _ _ (turned c) (c .before .before .pre .1) (c .before .before .pre .0)
 
 loop-holds : tie.Need-loop-holds Inv-loop μ-loop
