@@ -33,6 +33,7 @@ pub data Gathering : Type 0 where
   cut : Gathering
   long : Gathering
 
+-- A group, and what is gathered of the bytes behind it.
 abbrev pub before : ℕ → Gathering → Gathering
 before g (whole gs) = whole (g ∷ gs)
 before g cut = cut

@@ -44,7 +44,8 @@ pub(crate) fn gather(bytes: &[u8], groups: &mut [u64; Number::GROUPS]) -> Ending
     Ending::More
 }
 
-// Forms the number that began at a place from its groups, of which the last is group.
+// Forms the number that began at a place from its groups, of which the last is group. Several groups
+// that end in a zero group are not its shortest form.
 pub(crate) fn form(groups: &[u64; Number::GROUPS], count: usize, group: u64, at: usize) -> Number
     requires { ⌜ Counted count group (now groups) ⌝ }
     requires { ⌜ AreGroups (take count (now groups)) ⌝ }

@@ -42,7 +42,7 @@ impl Number {
     }
 }
 
-// The number at a place of the file. Any place may be asked, also one past the end.
+// The number at a place of the file. Any place may be asked: past the end the file has ended.
 pub fn read_at(file: &[u8], at: usize) -> Number
     ensures { λ r. ⌜ said r ≡ readAt (now (file .entry)) at ⌝ }
 {

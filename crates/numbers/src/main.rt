@@ -12,11 +12,14 @@ use libc::STDIN_FILENO;
 use libc::STDOUT_FILENO;
 use number::Number;
 
+// What stands before a case's file.
 const PLACE_BYTES: usize = 8;
 
 const COUNT_BYTES: usize = 4;
 
-const HEAD_BYTES: usize = 12;
+const HEAD_BYTES: usize = PLACE_BYTES + COUNT_BYTES;
+
+const BITS_IN_A_BYTE: u64 = 8;
 
 fn main() {
     let mut file = io::buffer();
@@ -78,7 +81,7 @@ fn number_of(bytes: &[u8], start: usize, count: usize) -> u64
     let mut i = count;
     while 0 < i {
         i -= 1;
-        value = value << 8 | bytes[start + i] as u64;
+        value = value << BITS_IN_A_BYTE | bytes[start + i] as u64;
     }
     value
 }
