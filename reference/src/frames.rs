@@ -7,6 +7,11 @@
 use crate::number::Reading;
 use std::fmt;
 
+/// Bytes of the asked place.
+const PLACE_BYTES: usize = 8;
+/// Bytes of the file's length.
+const LENGTH_BYTES: usize = 4;
+
 /// One question: what stands at this place of this file?
 #[derive(Clone, Debug, PartialEq, Eq)]
 pub struct Case {
@@ -59,15 +64,18 @@ pub fn read_frames(input: &[u8]) -> Result<Vec<Case>, CutShort> {
 
 /// The first frame of the input and what follows it; nothing if it is cut short.
 fn first_frame(input: &[u8]) -> Option<(Case, &[u8])> {
-    let (place, rest) = input.split_first_chunk()?;
-    let (length, rest) = rest.split_first_chunk()?;
-    let length = usize::try_from(u32::from_le_bytes(*length)).ok()?;
-    let (file, rest) = rest.split_at_checked(length)?;
-    let case = Case {
-        file: file.to_vec(),
-        place: u64::from_le_bytes(*place),
-    };
-    Some((case, rest))
+    let (place, rest) = split(input, PLACE_BYTES)?;
+    let (length, rest) = split(rest, LENGTH_BYTES)?;
+    let place = u64::from_le_bytes(place.try_into().ok()?);
+    let length = u32::from_le_bytes(length.try_into().ok()?);
+    let (file, rest) = split(rest, usize::try_from(length).ok()?)?;
+    let file = file.to_vec();
+    Some((Case { file, place }, rest))
+}
+
+/// The first bytes of the input and the rest; nothing if there are fewer.
+fn split(input: &[u8], length: usize) -> Option<(&[u8], &[u8])> {
+    (length <= input.len()).then(|| input.split_at(length))
 }
 
 /// The answer line, with its newline, for what was read at the asked place.
