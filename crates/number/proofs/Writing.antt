@@ -40,7 +40,7 @@ record Written (k v : ℕ) (t : List ℕ) : Type 0 where
   last-is : 0 < v → last groups ≡ 0 → ⊥
   single : v < radix → length groups ≤ 1
 
--- one group more in front
+-- a number of one group
 one-last : (k v : ℕ) (t : List ℕ) → v < radix → Written (suc k) v t
 unfolding value
 one-last k v t h =
@@ -54,6 +54,7 @@ one-last k v t h =
       single = λ _. omega arith;
     }
 
+-- a group in front of the rest
 one-more : (k v : ℕ) (t : List ℕ) → radix ≤ v → Written k (v / radix) t → Written (suc k) v t
 unfolding value
 one-more k v t h w =
