@@ -15,12 +15,12 @@ use Rattle.number.proofs.Gathering.{clash, gather-more, gather-last, la
 
 -- `Stands k s gs`: a number of at most k groups stands at the front of s, and gs are its groups
 pub data Stands : ℕ → List ℕ → List ℕ → Type 0 where
-  ends : {k b : ℕ} {s : List ℕ} → b < radix → Stands (suc k) (b ∷ s) (b % radix ∷ [])
-  goes-on : {k b : ℕ} {s gs : List ℕ} → radix ≤ b → Stands k s gs → Stands (suc k) (b ∷ s) (b % radix ∷ gs)
+  last-group : {k b : ℕ} {s : List ℕ} → b < radix → Stands (suc k) (b ∷ s) (b % radix ∷ [])
+  group-before : {k b : ℕ} {s gs : List ℕ} → radix ≤ b → Stands k s gs → Stands (suc k) (b ∷ s) (b % radix ∷ gs)
 
 pub gathers : {k : ℕ} {s gs : List ℕ} → Stands k s gs → gather k s ≡ whole gs
-gathers (ends {k} {b} {s} h) = gather-last k b s h
-gathers (goes-on {k} {b} {s} h r) = gather-more k b s h ∙ ap (before (b % radix)) (gathers r)
+gathers (last-group {k} {b} {s} h) = gather-last k b s h
+gathers (group-before {k} {b} {s} h r) = gather-more k b s h ∙ ap (before (b % radix)) (gathers r)
 
 -- a group before what was gathered is whole only before a whole
 before-whole : (g : ℕ) (r : Gathering) (gs : List ℕ) → before g r ≡ whole gs → (hs : List ℕ) × (r ≡ whole hs) × (gs ≡ g ∷ hs)
@@ -34,30 +34,30 @@ stands zero s gs e = clash (cc)
 stands (suc k) [] gs e = clash (cc)
 stands (suc k) (b ∷ s) gs e =
     ⊎-elim
-    (λ h. let q : gs ≡ b % radix ∷ [] = cc (gather-last k b s h) in rw q (ends h))
+    (λ h. let q : gs ≡ b % radix ∷ [] = cc (gather-last k b s h) in rw q (last-group h))
     (λ h.
     let (hs, r, q) = before-whole (b % radix) (gather k s) gs (sym (gather-more k b s h) ∙ e) in
-    rw q (goes-on h (stands k s hs r)))
+    rw q (group-before h (stands k s hs r)))
     (last-or-more b)
 
 -- ---- what stands is groups, some, no more than there may be, within the bytes
 pub are-groups : {k : ℕ} {s gs : List ℕ} → Stands k s gs → AreGroups gs
-are-groups (ends {b = b} h) = more (mod-lt b (lit< tt)) none
-are-groups (goes-on {b = b} h r) = more (mod-lt b (lit< tt)) (are-groups r)
+are-groups (last-group {b = b} h) = more (mod-lt b (lit< tt)) none
+are-groups (group-before {b = b} h r) = more (mod-lt b (lit< tt)) (are-groups r)
 
 pub some : {k : ℕ} {s gs : List ℕ} → Stands k s gs → 0 < length gs
-some (ends h) = omega arith
-some (goes-on h r) = omega arith
+some (last-group h) = omega arith
+some (group-before h r) = omega arith
 
 pub most : {k : ℕ} {s gs : List ℕ} → Stands k s gs → length gs ≤ k
-most (ends h) = omega arith
-most (goes-on h r) = let i = most r in omega arith
+most (last-group h) = omega arith
+most (group-before h r) = let i = most r in omega arith
 
 pub within : {k : ℕ} {s gs : List ℕ} → Stands k s gs → length gs ≤ length s
-within (ends h) = omega arith
-within (goes-on h r) = let i = within r in omega arith
+within (last-group h) = omega arith
+within (group-before h r) = let i = within r in omega arith
 
 -- ---- what comes after the number does not matter
 pub alone : {k : ℕ} {s gs : List ℕ} (t : List ℕ) → Stands k s gs → Stands k (take (length gs) s ++ t) gs
-alone t (ends h) = ends h
-alone t (goes-on h r) = goes-on h (alone t r)
+alone t (last-group h) = last-group h
+alone t (group-before h r) = group-before h (alone t r)

@@ -13,11 +13,15 @@ use Rattle.number.specs.Groups.{value, mostGroups, groupBits, radix}
 use Rattle.number.specs.Inside.{AreGroups}
 use Rattle.number.specs.Inside.AreGroups.{none, more}
 
+-- one group more is seven bits more
+pub group-more : (n : ℕ) → 2 ^ (groupBits * suc n) ≡ 2 ^ (groupBits * n) * radix
+group-more n = rw (mul-suc groupBits n, pow-add 2 (groupBits * n) groupBits)
+
 -- so many groups, so many times seven bits
 pub value-lt : {gs : List ℕ} → AreGroups gs → value gs < 2 ^ (groupBits * length gs)
 unfolding value
 value-lt none = lit< tt
-value-lt (more {gs = gs} h r) = rw (mul-suc groupBits (length gs), pow-add 2 (groupBits * length gs) groupBits) (digits-lt (value-lt r) h)
+value-lt (more {gs = gs} h r) = rw (group-more (length gs)) (digits-lt (value-lt r) h)
 
 pub groups-drop : (n : ℕ) {gs : List ℕ} → AreGroups gs → AreGroups (drop n gs)
 groups-drop zero r = r

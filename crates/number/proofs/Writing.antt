@@ -4,20 +4,20 @@ use mathlib.Core.Path.{_≡_, refl, sym, ap, ap₂, _∙_}
 use mathlib.Core.List.{List, [], _∷_, _++_}
 use mathlib.Core.Logic.{_⊎_, inl, inr, ⊎-elim}
 use mathlib.Core.Bool.{false, true≢false}
-use native.Mathlib.Nat.{mod-lt, mod-eq-of-lt, mul-suc, div-lt-iff-lt-mul}
+use native.Mathlib.Nat.{mod-lt, mod-eq-of-lt, div-lt-iff-lt-mul}
 use native.Mathlib.Decide.{decLe, decLt}
 use native.Mathlib.Omega.{arith}
 use lib.ListN.{length, take, drop, take-append-drop, length-drop}
 use lib.Seq.{drop-append-seam, getD-drop, drop-drop, length-take-le}
-use lib.Pow.{pow-add}
 use lib.Dec.{lit<}
 use borrow.Author.Tests.{lt-ltb, le-ltb}
 use Rattle.number.specs.Groups.{value, padded, groupBits, radix, group, mostGroups, largest}
 use Rattle.number.specs.Writing.{writing, written, AreBytes}
 use Rattle.number.specs.Reading.{reading, readAt, from}
 use Rattle.number.specs.Reading.Answer.{number}
+use Rattle.number.proofs.Values.{group-more}
 use Rattle.number.proofs.Standing.{Stands, some}
-use Rattle.number.proofs.Standing.Stands.{ends, goes-on}
+use Rattle.number.proofs.Standing.Stands.{last-group, group-before}
 use Rattle.number.proofs.Forming.{last, last-behind, padded-zero, padded-single, padded-other}
 use Rattle.number.proofs.Answering.{Reads, reads, standing-reads, at-front}
 use Rattle.number.proofs.Laws.{bounds}
@@ -47,7 +47,7 @@ one-last k v t h =
     let same : v % radix ≡ v = mod-eq-of-lt h in
     record {
       groups = v % radix ∷ [];
-      standing = rw (writing-last k v h) (ends h);
+      standing = rw (writing-last k v h) (last-group h);
       value-is = omega arith;
       size-is = rw (writing-last k v h);
       last-is = λ p e. omega arith;
@@ -62,7 +62,7 @@ one-more k v t h w =
     let says-more : radix ≤ byte = omega arith in
     record {
       groups = byte % radix ∷ w .groups;
-      standing = rw (writing-more k v h) (goes-on says-more (w .standing));
+      standing = rw (writing-more k v h) (group-before says-more (w .standing));
       value-is = rw (w .value-is) (omega arith);
       size-is = rw (writing-more k v h) (ap suc (w .size-is));
       last-is = λ p e. w .last-is (omega arith) (sym (last-behind (byte % radix) (w .groups) (some (w .standing))) ∙ e);
@@ -78,12 +78,9 @@ stands-written : (k v : ℕ) (t : List ℕ) → 0 < k → v < 2 ^ (groupBits * k
 stands-written zero v t h b = absurd (omega arith)
 stands-written (suc k) v t h b = by-size (decLt v radix) (stands-written k (v / radix) t)
   where
-    seven : 2 ^ (groupBits * suc k) ≡ 2 ^ (groupBits * k) * radix
-    seven = rw (mul-suc groupBits k, pow-add 2 (groupBits * k) groupBits)
-
     by-size : Dec (v < radix) → (0 < k → v / radix < 2 ^ (groupBits * k) → Written k (v / radix) t) → Written (suc k) v t
     by-size (yes small) rest = one-last k v t small
-    by-size (no large) rest = one-more k v t (omega arith) (rest (more-allowed k v (omega arith) b) (div-lt-iff-lt-mul (lit< tt) .1 (rw seven at b)))
+    by-size (no large) rest = one-more k v t (omega arith) (rest (more-allowed k v (omega arith) b) (div-lt-iff-lt-mul (lit< tt) .1 (rw (group-more k) at b)))
 
 -- a number within the limit reads back, whatever follows
 pub reads-back : (v : ℕ) (t : List ℕ) → v ≤ largest → reading (written v ++ t) ≡ number v (length (written v))
@@ -117,10 +114,10 @@ positive (g ∷ (k ∷ gs)) h =
 
 form-is : {k : ℕ} {s gs : List ℕ} → Stands k s gs → AreBytes s → (length gs ≤ 1) ⊎ (last gs ≡ 0 → ⊥) → take (length gs) s ≡ writing k (value gs)
 unfolding value
-form-is (ends {k} {b} h) bytes form =
+form-is (last-group {k} {b} h) bytes form =
     let same : b ≡ 0 * radix + b % radix = omega (arith, mod-eq-of-lt h) in
     sym (writing-last k (0 * radix + b % radix) (omega arith) ∙ ap (λ (x : ℕ). x ∷ []) (sym same))
-form-is (goes-on {k} {b} {s} {gs} h r) bytes form =
+form-is (group-before {k} {b} {s} {gs} h r) bytes form =
     let other : last gs ≡ 0 → ⊥ =
     λ e. ⊎-elim (λ one. omega (arith, some r)) (λ nz. nz (last-behind (b % radix) gs (some r) ∙ e)) form in
     let several = positive gs other in

@@ -5,6 +5,7 @@ use Rattle.number.specs.declared.Number.the-variants.{Value, Ends, NotSh
 use Rattle.number.specs.Reading.{Answer, ends, notShortest, tooLarge}
 use Rattle.number.specs.Reading.Answer.{number, fault}
 
+-- A value with its next place, or the fault's number.
 abbrev pub said : Number → Answer
 said (Value value next) = number value next
 said Ends = fault ends

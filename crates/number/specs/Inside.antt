@@ -30,6 +30,7 @@ pub record Counted (count group : ℕ) (groups : List ℕ) : Type 0 where
   pub came : Came count groups
   pub at-last : getD groups (count - 1) 0 ≡ group
 
+-- what an ending says of the array besides
 abbrev pub counted : Ending → List ℕ → Type 0
 counted (Last count group) groups = Counted count group groups
 counted Cut groups = Unit {0}

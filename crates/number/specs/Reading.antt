@@ -28,6 +28,7 @@ pub data Answer : Type 0 where
 unfoldable pub formed : List ℕ → Answer
 formed groups = cond (padded groups) (fault notShortest) (cond (leb (value groups) largest) (number (value groups) (length groups)) (fault tooLarge))
 
+-- What was gathered, as an answer: "file ends inside a number or where one is needed", "fifth group says more follow", or what the groups form.
 abbrev pub answer : Gathering → Answer
 answer (whole groups) = formed groups
 answer cut = fault ends

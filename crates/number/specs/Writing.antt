@@ -11,9 +11,10 @@ unfoldable pub writing : ℕ → ℕ → List ℕ
 writing zero v = []
 writing (suc allowed) v = cond (ltb v radix) (v ∷ []) ((radix + group v) ∷ writing allowed (v / radix))
 
+-- The shortest form of a number of at most five groups.
 unfoldable pub written : ℕ → List ℕ
 written v = writing mostGroups v
 
--- What a file of bytes holds.
+-- Each is a byte: a group, with the top bit or without.
 abbrev pub AreBytes : List ℕ → Type 0
 AreBytes bytes = (i : ℕ) → getD bytes i 0 < 2 * radix

@@ -21,7 +21,7 @@ loop-holds c = start _ _ (c .pre)
 returns : tie.Need-returns Inv-loop μ-loop
 returns c =
     let p = c .before .before .loop in
-    (sym (cut-is _ (p .groups) (p .n) (p .inv) (c .before .loop-test .taken) (c .if1 .taken)), tt)
+    (sym (cut-is _ (p .groups) (p .n) (p .inv) (omega arith) (c .if1 .taken)), tt)
 
 shared-slice-read-byte : tie.Need-shared-slice-read-byte Inv-loop μ-loop
 shared-slice-read-byte c = omega arith
@@ -57,7 +57,7 @@ loop-again c =
 returns-3 : tie.Need-returns-3 Inv-loop μ-loop
 returns-3 c =
     let p = c .before .loop in
-    (sym (more-is _ (p .groups) (p .n) (p .inv) (c .loop-test .left)), tt)
+    (sym (more-is _ (p .groups) (p .n) (p .inv) (omega arith)), tt)
 
 pub gather-spec : {M : Type 1} → statement M
 gather-spec =

@@ -4,7 +4,7 @@ use Prim.Native.Nat.{_+_, _-_, _*_, _^_, _<_}
 use native.Mathlib.Omega.{arith}
 use lib.ListN.{getD}
 use denote.Ref.{now}
-use Rattle.number.specs.Groups.{mostGroups, groupBits}
+use Rattle.number.specs.Groups.{mostGroups, groupBits, radix}
 use Rattle.number.proofs.Values.{Forms, start, small, turn, end}
 use Rattle.number.proofs.groups.value_of.Statement.{statement}
 use Rattle.number.proofs.groups.value_of.Tie as tie
@@ -16,11 +16,11 @@ abbrev μ-loop : tie.MeasureT-loop
 μ-loop groups value₀ i₀ value i = i
 
 -- a turn forms one group more
-turned : (c : tie.In-loop Inv-loop μ-loop) → Forms (now (c .before .before .args .groups)) (c .before .loop .value * 128 + getD (now (c .before .before .args .groups)) (c .before .loop .i - 1) 0) (c .before .loop .i - 1)
+turned : (c : tie.In-loop Inv-loop μ-loop) → Forms (now (c .before .before .args .groups)) (c .before .loop .value * radix + getD (now (c .before .before .args .groups)) (c .before .loop .i - 1) 0) (c .before .loop .i - 1)
 turned c = turn _ _ _ (c .before .loop .inv) (c .loop-test .taken)
 
 -- and what it forms is small
-formed-small : (c : tie.In-loop Inv-loop μ-loop) → c .before .loop .value * 128 + getD (now (c .before .before .args .groups)) (c .before .loop .i - 1) 0 < 2 ^ (groupBits * mostGroups)
+formed-small : (c : tie.In-loop Inv-loop μ-loop) → c .before .loop .value * radix + getD (now (c .before .before .args .groups)) (c .before .loop .i - 1) 0 < 2 ^ (groupBits * mostGroups)
 formed-small c = small _ _ _ (turned c) (c .before .before .pre .1) (c .before .before .pre .0)
 
 loop-holds : tie.Need-loop-holds Inv-loop μ-loop
