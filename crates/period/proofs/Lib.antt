@@ -1,0 +1,11 @@
+-- The tests of fields, and the rule of the class table.
+mod Ranges
+mod Table
+mod Classes
+-- What a file's bytes are as a run of numbers, and how a run is read.
+mod Runs
+mod Fields
+mod Stages
+mod Whole
+-- The whole period of 01 and its proved cases.
+pub mod Examples

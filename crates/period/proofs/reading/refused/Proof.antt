@@ -1,0 +1,45 @@
+-- `period::reading::refused` meets its contract: its arrays hold nothing. Assumes nothing.
+use mathlib.Core.Path.{ap, _∙_}
+use lib.ListN.{replicate}
+use borrow.Author.Needs.{needs}
+use Rattle.period.specs.declared.answer.Answer.{Answer}
+use Rattle.period.specs.declared.reading.Reading.{Reading}
+use Rattle.period.specs.declared.records.plant.Plant.{Plant}
+use Rattle.period.specs.declared.records.segment.Segment.{Segment}
+use Rattle.period.specs.declared.records.line.Line.{Line}
+use Rattle.period.specs.Plants.{mostPlants, noPlant}
+use Rattle.period.specs.Segments.{mostSegments, noSegment}
+use Rattle.period.specs.Lines.{mostLines}
+use Rattle.period.proofs.reading.refused.Statement.{statement}
+use Rattle.period.proofs.reading.refused.Tie as tie
+
+-- arrays of one plant, one segment and one line
+abbrev zeros : Answer → Plant → Segment → Line → Reading
+zeros answer plant segment line = record {
+  answer = answer;
+  «plant_count» = 0;
+  plants = replicate mostPlants plant;
+  «segment_count» = 0;
+  segments = replicate mostSegments segment;
+  «line_count» = 0;
+  lines = replicate mostLines line;
+}
+
+new-requires : tie.Need-new-requires
+new-requires c κs = search needs
+
+new-requires-2 : tie.Need-new-requires-2
+new-requires-2 c κs = search needs
+
+new-requires-3 : tie.Need-new-requires-3
+new-requires-3 c κs = search needs
+
+returns : tie.Need-returns
+returns c =
+    let answer = c .before .before .before .args .answer in
+    ap (λ (p : Plant). zeros answer p (c .before .new2 .result) (c .new3 .result)) (c .before .before .new .ensures)
+    ∙ ap (λ (s : Segment). zeros answer noPlant s (c .new3 .result)) (c .before .new2 .ensures)
+    ∙ ap (zeros answer noPlant noSegment) (c .new3 .ensures)
+
+pub refused-spec : {M : Type 1} → statement M
+refused-spec = tie.close (tie.spec new-requires new-requires-2 new-requires-3 returns)

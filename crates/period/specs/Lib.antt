@@ -1,0 +1,24 @@
+-- The definitions of 01, lowest first.
+
+-- the records: their limits, and the tests of their fields
+pub mod Ranges
+pub mod Plants
+pub mod Segments
+pub mod Classes
+pub mod Lines
+-- the file: a run of numbers, read front to back
+pub mod Refusals
+pub mod Run
+pub mod Fields
+pub mod Periods
+-- the accounts
+pub mod Emissions
+pub mod Walk
+pub mod Accounts
+pub mod Rows
+-- the answer to a file
+pub mod Quantified
+-- the code's answers in these terms
+pub mod Answers
+pub mod Held
+pub mod Inside

@@ -1,0 +1,45 @@
+-- "Result of a plant" and "Result of a segment": the rows, in 01's order.
+use Prim.Native.Nat.{ℕ, suc, _+_, _-_, _*_, _/_}
+use mathlib.Core.List.{List, [], _∷_, _++_}
+use Rattle.period.specs.declared.records.plant.Plant.{Plant}
+use Rattle.period.specs.declared.records.line.Line.{Line}
+use Rattle.period.specs.Plants.{millionths}
+use Rattle.period.specs.Classes.{plantOwner}
+use Rattle.period.specs.Emissions.{emission}
+use Rattle.period.specs.Walk.{Standing}
+use Rattle.period.specs.Accounts.{Account, charges}
+
+-- "units = floor(net / 1000), one unit a tonne"
+abbrev pub kgInUnit : ℕ
+kgInUnit = 1000
+
+-- "exported; stored; lost = exported − stored; gross = floor(stored × fraction / 1,000,000); associated = own emissions + all its
+-- charges; net = gross − associated, or 0 if associated is larger; units = floor(net / 1000), one unit a tonne; deficit = associated −
+-- gross, or 0 if gross is larger". The library's m - n is 0 where n is larger.
+abbrev pub plantRow : Plant → (stored associated : ℕ) → List ℕ
+plantRow plant stored associated =
+    let lost = plant .exported - stored in
+    let gross = stored * plant .fraction / millionths in
+    let net = gross - associated in
+    let units = net / kgInUnit in
+    let deficit = associated - gross in
+    plant .exported ∷ stored ∷ lost ∷ gross ∷ associated ∷ net ∷ units ∷ deficit ∷ []
+
+-- "associated = own emissions + all its charges", for the plant at an index from 0
+abbrev pub associated : List Line → List Account → ℕ → ℕ
+associated lines accounts index = emission plantOwner (suc index) lines + charges index accounts
+
+-- The rows of the plants from an index on, one after another. "The credit at the store is the plant's stored amount."
+unfoldable pub plantRows : List Line → List Account → ℕ → List Plant → List Standing → List ℕ
+plantRows lines accounts index [] arrived = []
+plantRows lines accounts index (plant ∷ plants) [] = []
+plantRows lines accounts index (plant ∷ plants) (standing ∷ arrived) =
+    plantRow plant (standing .amount) (associated lines accounts index) ++ plantRows lines accounts (suc index) plants arrived
+
+-- "A; D; A − D; E; the set of plants as a number"
+abbrev pub segmentRow : Account → List ℕ
+segmentRow a = let lost = a .inflow - a .outflow in a .inflow ∷ a .outflow ∷ lost ∷ a .emission ∷ a .plants ∷ []
+
+unfoldable pub segmentRows : List Account → List ℕ
+segmentRows [] = []
+segmentRows (a ∷ accounts) = segmentRow a ++ segmentRows accounts
