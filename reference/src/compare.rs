@@ -1,8 +1,7 @@
 //! Puts the suites to another program and compares its answers with our own.
 
-use crate::cases::Suite;
-use crate::frames::{answer_line, write_frames, Case};
-use crate::number::{read_number, Reading, Refusal};
+use crate::frames::write_frames;
+use crate::questions::{label_of, Question, Suite};
 use std::cmp::Ordering;
 use std::ffi::OsString;
 use std::fmt;
@@ -29,8 +28,8 @@ pub enum Fault {
 
 /// Compares every suite and reports on each, the totals last. Says whether
 /// all passed: a program that ends in failure fails, whatever it answered.
-pub fn compare_suites(
-    suites: &[Suite],
+pub fn compare_suites<Q: Question>(
+    suites: &[Suite<Q>],
     program: &Program,
     report: &mut impl Write,
 ) -> Result<bool, Fault> {
@@ -68,44 +67,53 @@ fn ask(program: &Program, frames: &[u8]) -> io::Result<Output> {
     })
 }
 
-/// How often each answer is expected in a suite.
-#[derive(Debug, Default, PartialEq, Eq)]
-struct Tally {
-    numbers: usize,
-    file_ends: usize,
-    not_shortest: usize,
-    too_large: usize,
+/// How often each answer is expected in a suite, by the labels of the answers.
+#[derive(Debug, PartialEq, Eq)]
+pub struct Tally {
+    counts: Vec<(&'static str, usize)>,
 }
 
 impl Tally {
-    fn add(&mut self, reading: Reading) {
-        let count = match reading {
-            Reading::Number { .. } => &mut self.numbers,
-            Reading::Refused(Refusal::FileEnds) => &mut self.file_ends,
-            Reading::Refused(Refusal::NotShortest) => &mut self.not_shortest,
-            Reading::Refused(Refusal::TooLarge) => &mut self.too_large,
-        };
+    /// Our own answers to all the cases.
+    #[cfg(test)]
+    pub fn of<Q: Question>(cases: &[Q]) -> Self {
+        Comparison::of(cases, &[]).tally
+    }
+
+    /// The tally that has counted nothing yet.
+    fn new(labels: &[&'static str]) -> Self {
+        let counts = labels.iter().map(|&label| (label, 0)).collect();
+        Tally { counts }
+    }
+
+    /// Counts one answer line.
+    fn add(&mut self, line: &str) {
+        let label = label_of(line);
+        let found = self.counts.iter_mut().find(|(known, _)| *known == label);
+        let (_, count) = found.expect("every answer has one of the labels");
         *count += 1;
+    }
+
+    /// How often answers with the label are expected.
+    #[cfg(test)]
+    pub fn count(&self, label: &str) -> usize {
+        let found = self.counts.iter().find(|(known, _)| *known == label);
+        found.map_or(0, |&(_, count)| count)
     }
 }
 
 impl fmt::Display for Tally {
     fn fmt(&self, out: &mut fmt::Formatter) -> fmt::Result {
-        let Tally {
-            numbers,
-            file_ends,
-            not_shortest,
-            too_large,
-        } = self;
-        write!(
-            out,
-            "N {numbers}, R1 {file_ends}, R2 {not_shortest}, R3 {too_large}"
-        )
+        let counts = self.counts.iter();
+        let shown: Vec<String> = counts
+            .map(|(label, count)| format!("{label} {count}"))
+            .collect();
+        out.write_str(&shown.join(", "))
     }
 }
 
 /// What came of comparing one suite.
-#[derive(Debug, Default)]
+#[derive(Debug)]
 struct Comparison {
     tally: Tally,
     /// How many cases were asked.
@@ -120,13 +128,14 @@ struct Comparison {
 
 impl Comparison {
     /// Compares the output with our own answers, line by line, newlines included.
-    fn of(cases: &[Case], output: &[u8]) -> Self {
+    fn of<Q: Question>(cases: &[Q], output: &[u8]) -> Self {
         let lines: Vec<&[u8]> = output.split_inclusive(|&byte| byte == b'\n').collect();
         let mut comparison = Comparison {
+            tally: Tally::new(Q::LABELS),
             asked: cases.len(),
             came: lines.len(),
             differ: lines.len().saturating_sub(cases.len()),
-            ..Comparison::default()
+            shown: Vec::new(),
         };
         for (index, case) in cases.iter().enumerate() {
             comparison.add(case, lines.get(index).copied());
@@ -135,10 +144,9 @@ impl Comparison {
     }
 
     /// Takes in one case and the line that came for it, if one came.
-    fn add(&mut self, case: &Case, came: Option<&[u8]>) {
-        let reading = read_number(&case.file, case.place);
-        self.tally.add(reading);
-        let expected = answer_line(case.place, reading);
+    fn add(&mut self, case: &impl Question, came: Option<&[u8]>) {
+        let expected = case.answer_line();
+        self.tally.add(&expected);
         if came == Some(expected.as_bytes()) {
             return;
         }
@@ -155,13 +163,11 @@ impl Comparison {
 }
 
 /// One difference in words, with all that is needed to ask the case again.
-fn difference(case: &Case, expected: &str, came: Option<&[u8]>) -> String {
-    let bytes: Vec<String> = case.file.iter().map(|b| format!("{b:02X}")).collect();
+fn difference(case: &impl Question, expected: &str, came: Option<&[u8]>) -> String {
     let came = came.map_or("no line".to_string(), shown_line);
     format!(
-        "bytes [{}], place {}: expected {}, came {came}",
-        bytes.join(" "),
-        case.place,
+        "{}: expected {}, came {came}",
+        case.in_words(),
         shown_line(expected.as_bytes()),
     )
 }
@@ -210,31 +216,21 @@ fn write_comparison(
 #[cfg(test)]
 mod tests {
     use super::*;
-    use crate::cases::number_suites;
-    use crate::number::MOST_GROUPS;
+    use crate::numbers::question::NumberAt;
 
     /// One case for each of the four answers.
-    fn four_cases() -> Vec<Case> {
+    fn four_cases() -> Vec<NumberAt> {
         let files: [&[u8]; 4] = [
             &[0xAC, 0x02],
             &[0x80],
             &[0x80, 0x00],
             &[0x81, 0xD0, 0xAC, 0xF3, 0x0E],
         ];
-        let asked = files.map(|file| Case {
+        let asked = files.map(|file| NumberAt {
             file: file.to_vec(),
             place: 0,
         });
         asked.to_vec()
-    }
-
-    fn one_of_each() -> Tally {
-        Tally {
-            numbers: 1,
-            file_ends: 1,
-            not_shortest: 1,
-            too_large: 1,
-        }
     }
 
     #[test]
@@ -242,7 +238,7 @@ mod tests {
         let comparison = Comparison::of(&four_cases(), b"N 300 2\nR 1 0\nR 2 0\nR 3 0\n");
         assert_eq!(comparison.compared(), 4);
         assert_eq!(comparison.differ, 0);
-        assert_eq!(comparison.tally, one_of_each());
+        assert_eq!(comparison.tally.to_string(), "N 1, R1 1, R2 1, R3 1");
     }
 
     #[test]
@@ -286,22 +282,5 @@ mod tests {
             comparison.shown,
             [r#"bytes [AC 02], place 0: expected "N 300 2", came "N 300 2" without a newline"#]
         );
-    }
-
-    #[test]
-    fn suites_meet_each_answer_they_can() {
-        const AT_LEAST: usize = 100;
-        for Suite { name, cases } in number_suites() {
-            let tally = Comparison::of(&cases, &[]).tally;
-            assert!(tally.numbers >= AT_LEAST, "{name}: {tally}");
-            assert!(tally.file_ends >= AT_LEAST, "{name}: {tally}");
-            assert!(tally.not_shortest >= AT_LEAST, "{name}: {tally}");
-
-            // Fewer groups than the most allowed cannot be too large.
-            let has_room = |case: &Case| case.file.len() >= MOST_GROUPS;
-            if cases.iter().any(has_room) {
-                assert!(tally.too_large >= AT_LEAST, "{name}: {tally}");
-            }
-        }
     }
 }

@@ -1,23 +1,12 @@
-//! How many cases are put to a program at once, and how it answers.
+//! How many questions are put to a program at once: their frames, one after the other.
 //!
-//! A frame is the asked place (8 bytes, least significant first), the length
-//! of the file (4 bytes, likewise), then the bytes of the file. Each frame is
-//! answered by one line.
+//! Every frame ends with a file: its length (4 bytes, least significant first), then its bytes.
 
-use crate::number::Reading;
+use crate::questions::Question;
 use std::fmt;
 
-/// Bytes of the asked place.
-const PLACE_BYTES: usize = 8;
-/// Bytes of the file's length.
+/// Bytes of a file's length.
 const LENGTH_BYTES: usize = 4;
-
-/// One question: what stands at this place of this file?
-#[derive(Clone, Debug, PartialEq, Eq)]
-pub struct Case {
-    pub file: Vec<u8>,
-    pub place: u64,
-}
 
 /// The input ends inside a frame.
 #[derive(Debug, PartialEq, Eq)]
@@ -31,29 +20,27 @@ impl fmt::Display for CutShort {
         let CutShort { whole_frames } = self;
         write!(
             out,
-            "the input ends inside a frame, after {whole_frames} whole frames"
+            "the input ends inside a frame, after {whole_frames} whole frames; \
+             give every frame as many bytes as its length says"
         )
     }
 }
 
-/// Writes the frames of all cases, one after the other.
-pub fn write_frames(cases: &[Case]) -> Vec<u8> {
+/// Writes the frames of all questions.
+pub fn write_frames<Q: Question>(cases: &[Q]) -> Vec<u8> {
     let mut frames = Vec::new();
     for case in cases {
-        let length = u32::try_from(case.file.len()).expect("a case's length fits its 4 bytes");
-        frames.extend(case.place.to_le_bytes());
-        frames.extend(length.to_le_bytes());
-        frames.extend(&case.file);
+        case.write_frame(&mut frames);
     }
     frames
 }
 
 /// Reads frames up to the end of the input.
-pub fn read_frames(input: &[u8]) -> Result<Vec<Case>, CutShort> {
+pub fn read_frames<Q: Question>(input: &[u8]) -> Result<Vec<Q>, CutShort> {
     let mut cases = Vec::new();
     let mut rest = input;
     while !rest.is_empty() {
-        let (case, after) = first_frame(rest).ok_or(CutShort {
+        let (case, after) = Q::first_frame(rest).ok_or(CutShort {
             whole_frames: cases.len(),
         })?;
         cases.push(case);
@@ -62,67 +49,55 @@ pub fn read_frames(input: &[u8]) -> Result<Vec<Case>, CutShort> {
     Ok(cases)
 }
 
-/// The first frame of the input and what follows it; nothing if it is cut short.
-fn first_frame(input: &[u8]) -> Option<(Case, &[u8])> {
-    let (place, rest) = split(input, PLACE_BYTES)?;
-    let (length, rest) = split(rest, LENGTH_BYTES)?;
-    let place = u64::from_le_bytes(place.try_into().ok()?);
+/// Appends a file: its length, then its bytes.
+pub fn write_file(file: &[u8], frames: &mut Vec<u8>) {
+    let length = u32::try_from(file.len()).expect("a case's length fits its 4 bytes");
+    frames.extend(length.to_le_bytes());
+    frames.extend(file);
+}
+
+/// The file that stands first in the input and what follows it; nothing if it is cut short.
+pub fn first_file(input: &[u8]) -> Option<(&[u8], &[u8])> {
+    let (length, rest) = split(input, LENGTH_BYTES)?;
     let length = u32::from_le_bytes(length.try_into().ok()?);
-    let (file, rest) = split(rest, usize::try_from(length).ok()?)?;
-    let file = file.to_vec();
-    Some((Case { file, place }, rest))
+    split(rest, usize::try_from(length).ok()?)
 }
 
 /// The first bytes of the input and the rest; nothing if there are fewer.
-fn split(input: &[u8], length: usize) -> Option<(&[u8], &[u8])> {
+pub fn split(input: &[u8], length: usize) -> Option<(&[u8], &[u8])> {
     (length <= input.len()).then(|| input.split_at(length))
-}
-
-/// The answer line, with its newline, for what was read at the asked place.
-pub fn answer_line(place: u64, reading: Reading) -> String {
-    match reading {
-        Reading::Number { value, next } => format!("N {value} {next}\n"),
-        Reading::Refused(refusal) => format!("R {} {place}\n", refusal.number()),
-    }
 }
 
 #[cfg(test)]
 mod tests {
     use super::*;
-    use crate::number::Refusal;
+    use crate::numbers::question::NumberAt;
+    use crate::periods::question::PeriodFile;
+    use std::fmt::Debug;
 
-    fn two_cases() -> Vec<Case> {
+    fn two_numbers() -> Vec<NumberAt> {
         vec![
-            Case {
+            NumberAt {
                 file: vec![0xAC, 0x02],
                 place: 0x0102_0304_0506_0708,
             },
-            Case {
+            NumberAt {
                 file: vec![],
                 place: u64::MAX,
             },
         ]
     }
 
-    #[test]
-    fn frame_is_place_then_length_then_bytes() {
-        let frames = write_frames(&two_cases()[..1]);
-        let expected = [8, 7, 6, 5, 4, 3, 2, 1, 2, 0, 0, 0, 0xAC, 0x02];
-        assert_eq!(frames, expected);
+    fn two_files() -> Vec<PeriodFile> {
+        [vec![0x01, 0x02, 0x80], vec![]].map(PeriodFile).to_vec()
     }
 
-    #[test]
-    fn written_frames_read_back() {
-        let cases = two_cases();
-        assert_eq!(read_frames(&write_frames(&cases)), Ok(cases));
-        assert_eq!(read_frames(&[]), Ok(vec![]));
-    }
-
-    #[test]
-    fn frame_cut_short_anywhere_is_said() {
-        let cases = two_cases();
-        let frames = write_frames(&cases);
+    /// Asserts that the frames of two questions read back, and that every cut is said.
+    fn assert_read_back<Q: Question + Clone + Debug + PartialEq>(cases: &[Q]) {
+        let frames = write_frames(cases);
         let first = write_frames(&cases[..1]).len();
+        assert_eq!(read_frames(&frames), Ok(cases.to_vec()));
+        assert_eq!(read_frames::<Q>(&[]), Ok(vec![]));
         for length in 1..frames.len() {
             let expected = if length == first {
                 Ok(cases[..1].to_vec())
@@ -136,13 +111,21 @@ mod tests {
     }
 
     #[test]
-    fn answers_are_one_line_each() {
-        let number = Reading::Number {
-            value: 300,
-            next: 4,
-        };
-        assert_eq!(answer_line(2, number), "N 300 4\n");
-        let refused = Reading::Refused(Refusal::TooLarge);
-        assert_eq!(answer_line(u64::MAX, refused), "R 3 18446744073709551615\n");
+    fn frame_of_a_number_is_place_then_length_then_bytes() {
+        let frames = write_frames(&two_numbers()[..1]);
+        let expected = [8, 7, 6, 5, 4, 3, 2, 1, 2, 0, 0, 0, 0xAC, 0x02];
+        assert_eq!(frames, expected);
+    }
+
+    #[test]
+    fn frame_of_a_period_is_length_then_bytes() {
+        let frames = write_frames(&two_files());
+        assert_eq!(frames, [3, 0, 0, 0, 0x01, 0x02, 0x80, 0, 0, 0, 0]);
+    }
+
+    #[test]
+    fn written_frames_read_back_and_cuts_are_said() {
+        assert_read_back(&two_numbers());
+        assert_read_back(&two_files());
     }
 }

@@ -1,5 +1,7 @@
 //! A small seeded generator (splitmix64), so that every run asks the same cases.
 
+use std::ops::RangeInclusive;
+
 /// What the state grows by at each draw.
 const STEP: u64 = 0x9E37_79B9_7F4A_7C15;
 /// The multipliers that mix the state into the drawn bits.
@@ -31,8 +33,20 @@ impl Seeded {
 
     /// A number from 0 to `most`, both included.
     pub fn up_to(&mut self, most: usize) -> usize {
-        let choices = most as u64 + 1;
-        (self.bits() % choices) as usize
+        self.within(0..=most as u64) as usize
+    }
+
+    /// A number of the range, which must not be empty.
+    pub fn within(&mut self, range: RangeInclusive<u64>) -> u64 {
+        let choices = range.end() - range.start() + 1;
+        range.start() + self.bits() % choices
+    }
+
+    /// A number from 0 to `most`, small ones as likely as large ones.
+    pub fn of_any_size(&mut self, most: u64) -> u64 {
+        let unused_bits = self.within(u64::from(most.leading_zeros())..=u64::from(u64::BITS));
+        let largest = u64::MAX.checked_shr(unused_bits as u32).unwrap_or(0);
+        self.within(0..=largest.min(most))
     }
 
     /// True once in `turns` draws on average.
@@ -75,5 +89,17 @@ mod tests {
             assert!(drawn.contains(&wanted));
         }
         assert!(drawn.iter().all(|&number| number <= 2));
+    }
+
+    #[test]
+    fn numbers_of_any_size_reach_both_ends() {
+        let mut seeded = Seeded::new(0);
+        let drawn: Vec<u64> = (0..1000).map(|_| seeded.of_any_size(1000)).collect();
+        assert!(drawn.iter().all(|&number| number <= 1000));
+        assert!(drawn.contains(&0));
+        assert!(drawn.iter().any(|&number| number > 900));
+        let small = drawn.iter().filter(|&&number| number < 10).count();
+        assert!(small > 300);
+        assert_eq!(seeded.of_any_size(0), 0);
     }
 }

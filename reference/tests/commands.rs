@@ -25,6 +25,17 @@ fn text(bytes: &[u8]) -> &str {
     std::str::from_utf8(bytes).expect("the program prints text")
 }
 
+/// The bytes of the paper's whole period.
+const WHOLE_PERIOD: [u8; 37] = [
+    0x01, 0x02, 0x02, 0x02, // header
+    0x90, 0x4E, 0x01, 0xC0, 0x84, 0x3D, // plants
+    0x89, 0x27, 0x01, 0xA0, 0xF7, 0x36, //
+    0x01, 0xB4, 0x74, 0x02, // segments
+    0x06, 0xB3, 0x74, 0x00, //
+    0x00, 0x01, 0x04, 0xD0, 0x0F, 0xDE, 0x02, // lines
+    0x01, 0x01, 0x03, 0x65, 0xDA, 0x14,
+];
+
 #[test]
 fn frames_are_answered_line_by_line() {
     let frames = [
@@ -45,14 +56,95 @@ fn frame_cut_short_is_said() {
 }
 
 #[test]
-fn program_agrees_with_itself() {
-    let own = ["compare", "numbers", "--", REFERENCE, "answer", "numbers"];
-    let output = run(&own, &[]);
+fn period_files_are_answered_line_by_line() {
+    let frames = [
+        &[37, 0, 0, 0][..],
+        &WHOLE_PERIOD,
+        &[0, 0, 0, 0],
+        &[2, 0, 0, 0, 0x01, 0x00],
+    ];
+    let output = run(&["answer", "readings"], &frames.concat());
     assert_eq!(
-        text(&output.stdout).lines().last(),
-        Some("5 passed, 0 failed")
+        text(&output.stdout),
+        "A 1 2 2 2 10000 1 1000000 5001 1 900000 1 14900 2 6 14899 0 \
+         0 1 4 2000 350 1 1 3 101 2650\nR 1 0\nR 5 1\n"
     );
     assert_eq!(output.status.code(), Some(0));
+}
+
+#[test]
+fn period_file_cut_short_is_said() {
+    for input in [&[0, 0, 0, 0, 1, 0, 0][..], &[0, 0, 0, 0, 2, 0, 0, 0, 0x01]] {
+        let output = run(&["answer", "readings"], input);
+        assert_eq!(text(&output.stdout), "");
+        let message = text(&output.stderr);
+        assert!(message.contains("ends inside a frame, after 1 whole frames; give every frame"));
+        assert_eq!(output.status.code(), Some(2));
+    }
+}
+
+#[test]
+fn program_agrees_with_itself() {
+    for (what, suites) in [("numbers", 5), ("readings", 11)] {
+        let output = run(&["compare", what, "--", REFERENCE, "answer", what], &[]);
+        assert_eq!(
+            text(&output.stdout).lines().last(),
+            Some(&format!("{suites} passed, 0 failed")[..])
+        );
+        assert_eq!(output.status.code(), Some(0));
+    }
+}
+
+#[test]
+fn program_that_answers_other_questions_fails() {
+    let other = ["compare", "readings", "--", REFERENCE, "rows"];
+    let output = run(&other, &[]);
+    let report = text(&output.stdout);
+    assert!(report.contains("expected \"A 1 2 2 2 10000 "));
+    assert_eq!(report.lines().last(), Some("0 passed, 11 failed"));
+    assert_eq!(output.status.code(), Some(1));
+}
+
+#[test]
+fn rows_of_an_accepted_file_are_written() {
+    let output = run(&["rows"], &WHOLE_PERIOD);
+    assert_eq!(
+        text(&output.stdout),
+        "P 1 10000 9931 69 9931 879 9052 9 0\n\
+         P 2 5001 4968 33 4471 90 4381 4 0\n\
+         S 1 15001 14900 101 268 3\n\
+         S 2 14900 14899 1 0 3\n"
+    );
+    assert_eq!(output.status.code(), Some(0));
+}
+
+#[test]
+fn refusal_of_a_file_is_written() {
+    let one_byte_more = [&WHOLE_PERIOD[..], &[0x80]].concat();
+    for (file, refusal) in [(&[][..], "R 1 0\n"), (&one_byte_more, "R 9 26\n")] {
+        let output = run(&["rows"], file);
+        assert_eq!(text(&output.stdout), refusal);
+        assert_eq!(output.status.code(), Some(1));
+    }
+}
+
+#[test]
+fn cases_of_periods_are_written_one_to_a_line() {
+    let output = run(&["cases", "periods", "7", "40"], &[]);
+    let lines: Vec<&str> = text(&output.stdout).lines().collect();
+    assert_eq!(lines.len(), 40);
+    assert!(lines[0].starts_with("16 10 01020202904E01C0843D"));
+    assert!(lines[0].ends_with(
+        " A 10000 9931 69 9931 879 9052 9 0 5001 4968 33 4471 90 4381 4 0 \
+         15001 14900 101 268 3 14900 14899 1 0 3"
+    ));
+    assert_eq!(lines[1], "16 10 - R 1 0");
+    assert_eq!(lines[3], "16 10 8000 R 2 0");
+    assert!(lines[14].ends_with(" R 14 16"));
+    assert_eq!(output.status.code(), Some(0));
+
+    let none = run(&["cases", "periods", "7", "0"], &[]);
+    assert_eq!(text(&none.stdout), "");
 }
 
 #[test]
@@ -76,13 +168,22 @@ fn program_that_cannot_start_is_said_in_one_line() {
 
 #[test]
 fn bad_usage_prints_how_to_call() {
-    let bad: [&[&str]; 6] = [
+    let bad: [&[&str]; 15] = [
         &[],
         &["answer"],
         &["answer", "numbers", "more"],
         &["compare", "numbers"],
         &["compare", "numbers", "--"],
         &["compare", "numbers", REFERENCE, "answer", "numbers"],
+        &["compare", "rows", "--", REFERENCE],
+        &["compare", "readings"],
+        &["answer", "rows"],
+        &["rows", "more"],
+        &["cases"],
+        &["cases", "periods", "1"],
+        &["cases", "periods", "one", "2"],
+        &["cases", "periods", "1", "-2"],
+        &["cases", "numbers", "1", "2"],
     ];
     for arguments in bad {
         let output = run(arguments, &[]);

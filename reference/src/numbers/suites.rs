@@ -1,20 +1,15 @@
 //! The suites of cases for number reading. Every run asks the same ones.
 
-use crate::frames::Case;
-use crate::number::{write_number, LIMIT, MORE_FOLLOW, MOST_GROUPS};
+use super::number::{padded, write_number, LIMIT, MOST_GROUPS};
+use super::question::NumberAt;
+use crate::questions::Suite;
 use crate::seeded::Seeded;
 use std::collections::BTreeSet;
 use std::iter;
 use std::ops::RangeInclusive;
 
-/// Cases that are compared and counted together.
-pub struct Suite {
-    pub name: &'static str,
-    pub cases: Vec<Case>,
-}
-
 /// All suites for number reading.
-pub fn number_suites() -> Vec<Suite> {
+pub fn number_suites() -> Vec<Suite<NumberAt>> {
     vec![
         Suite {
             name: "numbers, all of one and two bytes",
@@ -50,13 +45,13 @@ fn edge_bytes() -> Vec<u8> {
 }
 
 /// The case that asks at the front of a file.
-fn asked_at_front(file: Vec<u8>) -> Case {
-    Case { file, place: 0 }
+fn asked_at_front(file: Vec<u8>) -> NumberAt {
+    NumberAt { file, place: 0 }
 }
 
 // Suite: all of one and two bytes.
 
-fn one_and_two_bytes() -> Vec<Case> {
+fn one_and_two_bytes() -> Vec<NumberAt> {
     let one = all_bytes().map(|byte| vec![byte]);
     let two = all_bytes().flat_map(|first| all_bytes().map(move |second| vec![first, second]));
     one.chain(two).map(asked_at_front).collect()
@@ -75,7 +70,7 @@ const PATTERN_LENGTHS: RangeInclusive<usize> = 3..=MOST_GROUPS + 1;
 const BYTE_AFTER_FIFTH: u8 = 0xFF;
 
 /// Each file stands once, though many patterns lead to the same one.
-fn bytes_at_edges() -> Vec<Case> {
+fn bytes_at_edges() -> Vec<NumberAt> {
     let mut files = BTreeSet::new();
     for length in PATTERN_LENGTHS {
         files.extend(mixed_patterns(length));
@@ -152,12 +147,12 @@ const BYTES_BEFORE: [&[u8]; 4] = [&[], &[0x00], &[0xFF], &[0x80, 0x80, 0x80]];
 /// Bytes after a number, which matter only where the number was cut short.
 const BYTES_AFTER: [&[u8]; 5] = [&[], &[0x00], &[0x7F], &[0x80], &[0xFF, 0xFF]];
 
-fn values_at_edges() -> Vec<Case> {
+fn values_at_edges() -> Vec<NumberAt> {
     let mut cases = Vec::new();
     for form in edge_values().into_iter().flat_map(forms_of) {
         for before in BYTES_BEFORE {
             for after in BYTES_AFTER {
-                cases.push(Case {
+                cases.push(NumberAt {
                     file: [before, &form, after].concat(),
                     place: before.len() as u64,
                 });
@@ -184,16 +179,6 @@ fn forms_of(value: u64) -> Vec<Vec<u8>> {
     let padded = (shortest.len() + 1..=MOST_PADDED_GROUPS).map(|groups| padded(&shortest, groups));
     let cut = (0..shortest.len()).map(|groups| shortest[..groups].to_vec());
     padded.chain(cut).chain([shortest.clone()]).collect()
-}
-
-/// The same value in more groups than it needs, the added ones zero.
-fn padded(shortest: &[u8], groups: usize) -> Vec<u8> {
-    let mut bytes = shortest.to_vec();
-    bytes.resize(groups, 0);
-    for byte in &mut bytes[..groups - 1] {
-        *byte |= MORE_FOLLOW;
-    }
-    bytes
 }
 
 // Suite: places in the file and far past it.
@@ -227,7 +212,7 @@ const SEED_OF_PLACES: u64 = 0x5EED_0001;
 
 /// Far places are asked of the repeated bytes only: no byte of the file should
 /// matter there, and these show it when one does.
-fn places_near_and_far() -> Vec<Case> {
+fn places_near_and_far() -> Vec<NumberAt> {
     let mut seeded = Seeded::new(SEED_OF_PLACES);
     let mut cases = Vec::new();
     for length in 0..=LONGEST_PLACED_FILE {
@@ -245,8 +230,8 @@ fn places_near_and_far() -> Vec<Case> {
 }
 
 /// The cases that ask at each of the places of one file.
-fn asked_at_each(file: &[u8], places: impl Iterator<Item = u64>) -> Vec<Case> {
-    let asked_at = |place| Case {
+fn asked_at_each(file: &[u8], places: impl Iterator<Item = u64>) -> Vec<NumberAt> {
+    let asked_at = |place| NumberAt {
         file: file.to_vec(),
         place,
     };
@@ -303,7 +288,7 @@ const DAMAGES: [Damage; 6] = [
     Damage::AllReplaced,
 ];
 
-fn seeded_whole_and_damaged() -> Vec<Case> {
+fn seeded_whole_and_damaged() -> Vec<NumberAt> {
     let mut seeded = Seeded::new(SEED_OF_DAMAGE);
     iter::repeat_with(|| seeded_case(&mut seeded))
         .take(SEEDED_CASES)
@@ -311,7 +296,7 @@ fn seeded_whole_and_damaged() -> Vec<Case> {
 }
 
 /// A number amid seeded bytes, damaged or not, mostly asked where it starts.
-fn seeded_case(seeded: &mut Seeded) -> Case {
+fn seeded_case(seeded: &mut Seeded) -> NumberAt {
     let longest = if seeded.one_in(CASES_TO_A_LONG_ONE) {
         LONGEST_LONG_FILE
     } else {
@@ -332,7 +317,7 @@ fn seeded_case(seeded: &mut Seeded) -> Case {
     } else {
         start
     };
-    Case {
+    NumberAt {
         file,
         place: place as u64,
     }
@@ -376,7 +361,8 @@ fn seeded_byte(seeded: &mut Seeded) -> u8 {
 #[cfg(test)]
 mod tests {
     use super::*;
-    use crate::number::{read_number, Reading};
+    use crate::compare::Tally;
+    use crate::numbers::number::{read_number, Reading};
 
     #[test]
     fn every_run_asks_the_same_cases() {
@@ -388,7 +374,7 @@ mod tests {
     #[test]
     fn what_reads_in_any_case_is_the_written_form() {
         for Suite { name, cases } in number_suites() {
-            for Case { file, place } in cases {
+            for NumberAt { file, place } in cases {
                 if let Reading::Number { value, next } = read_number(&file, place) {
                     let bytes = &file[place as usize..next as usize];
                     assert_eq!(write_number(value), bytes, "{name}");
@@ -406,21 +392,32 @@ mod tests {
     }
 
     #[test]
-    fn padding_adds_zero_groups_only() {
-        assert_eq!(padded(&[0x7F], 2), [0xFF, 0x00]);
-        assert_eq!(padded(&[0xAC, 0x02], 4), [0xAC, 0x82, 0x80, 0x00]);
-    }
-
-    #[test]
     fn seeded_files_keep_their_lengths() {
         let cases = seeded_whole_and_damaged();
         assert_eq!(cases.len(), SEEDED_CASES);
-        let long = |case: &&Case| case.file.len() > LONGEST_FILE;
+        let long = |case: &&NumberAt| case.file.len() > LONGEST_FILE;
         let long_files = cases.iter().filter(long).count();
         assert!((1..SEEDED_CASES / 100).contains(&long_files));
         assert!(cases
             .iter()
             .all(|case| case.file.len() <= LONGEST_LONG_FILE));
         assert!(cases.iter().any(|case| case.file.is_empty()));
+    }
+
+    #[test]
+    fn suites_meet_each_answer_they_can() {
+        const AT_LEAST: usize = 100;
+        for Suite { name, cases } in number_suites() {
+            let tally = Tally::of(&cases);
+            for label in ["N", "R1", "R2"] {
+                assert!(tally.count(label) >= AT_LEAST, "{name}: {tally}");
+            }
+
+            // Fewer groups than the most allowed cannot be too large.
+            let has_room = |case: &NumberAt| case.file.len() >= MOST_GROUPS;
+            if cases.iter().any(has_room) {
+                assert!(tally.count("R3") >= AT_LEAST, "{name}: {tally}");
+            }
+        }
     }
 }

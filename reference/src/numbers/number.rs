@@ -1,7 +1,7 @@
 //! Numbers of the period file: groups of seven bits, lowest first, one in a byte.
 
 /// Bits of the value that one group holds.
-const GROUP_BITS: usize = 7;
+pub const GROUP_BITS: usize = 7;
 /// The bits of a byte that are its group.
 const GROUP_MASK: u8 = 0x7F;
 /// The bit of a byte that is set when another group follows.
@@ -91,6 +91,16 @@ pub fn write_number(value: u64) -> Vec<u8> {
         }
         bytes.push(group | MORE_FOLLOW);
     }
+}
+
+/// The same value in more groups than it needs, the added ones zero.
+pub fn padded(shortest: &[u8], groups: usize) -> Vec<u8> {
+    let mut bytes = shortest.to_vec();
+    bytes.resize(groups, 0);
+    for byte in &mut bytes[..groups - 1] {
+        *byte |= MORE_FOLLOW;
+    }
+    bytes
 }
 
 /// The lowest seven bits of a value.
@@ -206,6 +216,12 @@ mod tests {
             };
             assert_eq!(read_number(&bytes, 0), expected, "value {value}");
         }
+    }
+
+    #[test]
+    fn padding_adds_zero_groups_only() {
+        assert_eq!(padded(&[0x7F], 2), [0xFF, 0x00]);
+        assert_eq!(padded(&[0xAC, 0x02], 4), [0xAC, 0x82, 0x80, 0x00]);
     }
 
     #[test]

@@ -1,0 +1,69 @@
+//! The question about one number, put as the asked place (8 bytes, least
+//! significant first) and the file.
+
+use super::number::{read_number, Reading};
+use crate::frames::{first_file, split, write_file};
+use crate::questions::{hex, Question};
+
+/// Bytes of the asked place.
+const PLACE_BYTES: usize = 8;
+
+/// One question: what stands at this place of this file?
+#[derive(Clone, Debug, PartialEq, Eq)]
+pub struct NumberAt {
+    pub file: Vec<u8>,
+    pub place: u64,
+}
+
+impl Question for NumberAt {
+    const LABELS: &'static [&'static str] = &["N", "R1", "R2", "R3"];
+
+    fn write_frame(&self, frames: &mut Vec<u8>) {
+        frames.extend(self.place.to_le_bytes());
+        write_file(&self.file, frames);
+    }
+
+    fn first_frame(input: &[u8]) -> Option<(Self, &[u8])> {
+        let (place, rest) = split(input, PLACE_BYTES)?;
+        let place = u64::from_le_bytes(place.try_into().ok()?);
+        let (file, rest) = first_file(rest)?;
+        let file = file.to_vec();
+        Some((NumberAt { file, place }, rest))
+    }
+
+    fn answer_line(&self) -> String {
+        match read_number(&self.file, self.place) {
+            Reading::Number { value, next } => format!("N {value} {next}\n"),
+            Reading::Refused(refusal) => format!("R {} {}\n", refusal.number(), self.place),
+        }
+    }
+
+    fn in_words(&self) -> String {
+        format!("bytes [{}], place {}", hex(&self.file, " "), self.place)
+    }
+}
+
+#[cfg(test)]
+mod tests {
+    use super::*;
+
+    fn asked(file: &[u8], place: u64) -> NumberAt {
+        let file = file.to_vec();
+        NumberAt { file, place }
+    }
+
+    #[test]
+    fn answers_are_one_line_each() {
+        let number = asked(&[0xFF, 0xFF, 0xAC, 0x02], 2);
+        assert_eq!(number.answer_line(), "N 300 4\n");
+        let past_the_end = asked(&[0x01], u64::MAX);
+        assert_eq!(past_the_end.answer_line(), "R 1 18446744073709551615\n");
+        let too_large = asked(&[0x00, 0x80, 0x80, 0x80, 0x80, 0x80], 1);
+        assert_eq!(too_large.answer_line(), "R 3 1\n");
+    }
+
+    #[test]
+    fn words_hold_bytes_and_place() {
+        assert_eq!(asked(&[0xAC, 0x02], 1).in_words(), "bytes [AC 02], place 1");
+    }
+}

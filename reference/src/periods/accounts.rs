@@ -1,0 +1,144 @@
+//! The whole of the paper in its order: from the bytes of a file to the rows.
+
+use super::emissions::emissions_of;
+use super::flow::flow_of;
+use super::reading::read_period;
+use super::records::Period;
+use super::refusal::{Reason, Refused};
+use super::rows::{PlantRow, Rows, SegmentRow};
+
+/// How many numbers the two tables of the caller hold.
+#[derive(Clone, Copy, Debug, PartialEq, Eq)]
+pub struct Tables {
+    pub plant: usize,
+    pub segment: usize,
+}
+
+impl Tables {
+    /// Tables that hold the rows of any period.
+    pub const LARGE_ENOUGH: Tables = Tables {
+        plant: usize::MAX,
+        segment: usize::MAX,
+    };
+
+    /// Tables that hold the rows of this many plants and segments and no more.
+    pub fn just_for(plants: usize, segments: usize) -> Self {
+        Tables {
+            plant: plants * PlantRow::NUMBERS,
+            segment: segments * SegmentRow::NUMBERS,
+        }
+    }
+
+    /// Tests that the rows of the period fit: refusals 14 and 15.
+    fn check(self, period: &Period) -> Result<(), Refused> {
+        let needed = Tables::just_for(period.plants.len(), period.segments.len());
+        if self.plant < needed.plant {
+            return Err(Reason::PlantTableShort.at(needed.plant));
+        }
+        if self.segment < needed.segment {
+            return Err(Reason::SegmentTableShort.at(needed.segment));
+        }
+        Ok(())
+    }
+}
+
+/// The rows of the period that the file holds, or the first refusal.
+pub fn account(file: &[u8], tables: Tables) -> Result<Rows, Refused> {
+    let period = read_period(file)?;
+    let emissions = emissions_of(&period)?;
+    let flow = flow_of(&period, &emissions.segments)?;
+    tables.check(&period)?;
+    Ok(Rows::new(&period, &emissions, &flow))
+}
+
+#[cfg(test)]
+mod tests {
+    use super::*;
+    use crate::periods::paper::{whole_period, WHOLE_PERIOD};
+    use crate::periods::writing::{with_values, write_numbers};
+
+    /// Changes of the whole period that are each refused by themselves.
+    const GRAMS_PAST_LIMIT: [(usize, u64); 2] = [(19, 4_000_000_000), (20, 1001)];
+    const OUTFLOW_OVER_INFLOW: [(usize, u64); 1] = [(11, 15_002)];
+    const NOTHING_EXPORTED: [(usize, u64); 4] = [(4, 0), (7, 0), (11, 0), (14, 0)];
+
+    const EMPTY_TABLES: Tables = Tables {
+        plant: 0,
+        segment: 0,
+    };
+
+    /// The refusal of the whole period with the changes, in tables that hold nothing.
+    fn refused_with(changes: &[&[(usize, u64)]]) -> String {
+        let numbers = with_values(&WHOLE_PERIOD, &changes.concat());
+        refused(&write_numbers(&numbers), EMPTY_TABLES)
+    }
+
+    fn refused(file: &[u8], tables: Tables) -> String {
+        let refused = account(file, tables).expect_err("the file is refused");
+        refused.to_string()
+    }
+
+    #[test]
+    fn rows_of_the_whole_period() {
+        let rows = account(&whole_period(), Tables::just_for(2, 2));
+        assert_eq!(
+            rows.expect("the period is accepted").to_string(),
+            "P 1 10000 9931 69 9931 879 9052 9 0\n\
+             P 2 5001 4968 33 4471 90 4381 4 0\n\
+             S 1 15001 14900 101 268 3\n\
+             S 2 14900 14899 1 0 3\n"
+        );
+    }
+
+    #[test]
+    fn bytes_after_come_before_grams() {
+        let numbers = with_values(&WHOLE_PERIOD, &GRAMS_PAST_LIMIT);
+        let file = [write_numbers(&numbers), vec![0]].concat();
+        assert_eq!(refused(&file, EMPTY_TABLES), "R 9 26");
+    }
+
+    #[test]
+    fn grams_come_before_flow() {
+        assert_eq!(
+            refused_with(&[&OUTFLOW_OVER_INFLOW, &GRAMS_PAST_LIMIT]),
+            "R 10 1"
+        );
+        assert_eq!(
+            refused_with(&[&NOTHING_EXPORTED, &GRAMS_PAST_LIMIT]),
+            "R 10 1"
+        );
+    }
+
+    #[test]
+    fn outflow_comes_before_emission_at_a_segment() {
+        let one_kg_out: [(usize, u64); 1] = [(11, 1)];
+        assert_eq!(refused_with(&[&NOTHING_EXPORTED, &one_kg_out]), "R 12 1");
+        let one_kg_out_later: [(usize, u64); 1] = [(14, 1)];
+        assert_eq!(
+            refused_with(&[&NOTHING_EXPORTED, &one_kg_out_later]),
+            "R 13 1"
+        );
+    }
+
+    #[test]
+    fn flow_comes_before_tables() {
+        assert_eq!(refused_with(&[&OUTFLOW_OVER_INFLOW]), "R 12 1");
+        assert_eq!(refused_with(&[&NOTHING_EXPORTED]), "R 13 1");
+    }
+
+    #[test]
+    fn plant_table_comes_before_segment_table() {
+        let enough = Tables::just_for(2, 2);
+        assert_eq!(refused(&whole_period(), EMPTY_TABLES), "R 14 16");
+        let plant_short = Tables {
+            plant: 15,
+            ..enough
+        };
+        assert_eq!(refused(&whole_period(), plant_short), "R 14 16");
+        let segment_short = Tables {
+            segment: 9,
+            ..enough
+        };
+        assert_eq!(refused(&whole_period(), segment_short), "R 15 10");
+    }
+}

@@ -1,0 +1,58 @@
+//! Cases of the whole of the paper, stated for use elsewhere.
+
+use super::accounts::{account, Tables};
+use super::rows::spaced;
+use crate::questions::hex;
+use std::fmt;
+
+/// What stands for the digits of an empty file.
+const EMPTY_FILE: &str = "-";
+
+/// A file and the tables for its rows.
+#[derive(Clone, Debug, PartialEq, Eq)]
+pub struct PeriodCase {
+    pub file: Vec<u8>,
+    pub tables: Tables,
+}
+
+impl PeriodCase {
+    /// Our own answer: the numbers of both tables, or the refusal.
+    pub fn answer(&self) -> String {
+        match account(&self.file, self.tables) {
+            Ok(rows) => format!("A {}", spaced(&rows.numbers())),
+            Err(refused) => refused.to_string(),
+        }
+    }
+}
+
+/// The case in one line: the lengths of the tables, the bytes of the file, the answer.
+impl fmt::Display for PeriodCase {
+    fn fmt(&self, out: &mut fmt::Formatter) -> fmt::Result {
+        let Tables { plant, segment } = self.tables;
+        let digits = match &self.file[..] {
+            [] => EMPTY_FILE.to_string(),
+            bytes => hex(bytes, ""),
+        };
+        write!(out, "{plant} {segment} {digits} {}", self.answer())
+    }
+}
+
+#[cfg(test)]
+mod tests {
+    use super::*;
+
+    fn line_of(file: &[u8], tables: Tables) -> String {
+        let file = file.to_vec();
+        PeriodCase { file, tables }.to_string()
+    }
+
+    #[test]
+    fn line_holds_lengths_bytes_and_answer() {
+        let one_plant_one_store = [1, 1, 1, 0, 0, 1, 0, 6, 0, 0];
+        assert_eq!(
+            line_of(&one_plant_one_store, Tables::just_for(1, 1)),
+            "8 5 01010100000100060000 A 0 0 0 0 0 0 0 0 0 0 0 0 1"
+        );
+        assert_eq!(line_of(&[], Tables::just_for(2, 0)), "16 0 - R 1 0");
+    }
+}

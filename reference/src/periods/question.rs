@@ -1,0 +1,56 @@
+//! The question how a period file is read, put as the file alone.
+
+use super::reading::read_period;
+use super::rows::spaced;
+use crate::frames::{first_file, write_file};
+use crate::questions::{hex, Question};
+
+/// One question: what are the records of this file, or why is it refused?
+#[derive(Clone, Debug, PartialEq, Eq)]
+pub struct PeriodFile(pub Vec<u8>);
+
+impl Question for PeriodFile {
+    const LABELS: &'static [&'static str] =
+        &["A", "R1", "R2", "R3", "R4", "R5", "R6", "R7", "R8", "R9"];
+
+    fn write_frame(&self, frames: &mut Vec<u8>) {
+        write_file(&self.0, frames);
+    }
+
+    fn first_frame(input: &[u8]) -> Option<(Self, &[u8])> {
+        let (file, rest) = first_file(input)?;
+        Some((PeriodFile(file.to_vec()), rest))
+    }
+
+    fn answer_line(&self) -> String {
+        match read_period(&self.0) {
+            Ok(period) => format!("A {}\n", spaced(&period.numbers())),
+            Err(refused) => format!("{refused}\n"),
+        }
+    }
+
+    fn in_words(&self) -> String {
+        format!("bytes [{}]", hex(&self.0, " "))
+    }
+}
+
+#[cfg(test)]
+mod tests {
+    use super::*;
+    use crate::periods::paper::whole_period;
+
+    #[test]
+    fn answers_are_one_line_each() {
+        assert_eq!(
+            PeriodFile(whole_period()).answer_line(),
+            "A 1 2 2 2 10000 1 1000000 5001 1 900000 1 14900 2 6 14899 0 \
+             0 1 4 2000 350 1 1 3 101 2650\n"
+        );
+        assert_eq!(PeriodFile(vec![0x01]).answer_line(), "R 1 1\n");
+    }
+
+    #[test]
+    fn words_hold_the_bytes() {
+        assert_eq!(PeriodFile(vec![0x01, 0x80]).in_words(), "bytes [01 80]");
+    }
+}

@@ -1,0 +1,164 @@
+//! Reading a period file into records: refusals 1 to 9.
+
+use super::fields::field_after;
+use super::records::Period;
+use super::refusal::{Reason, Refused};
+use crate::numbers::number::{read_number, Reading};
+
+/// Reads the file front to back, each number tested for itself and for its
+/// field before the next one is read.
+pub fn read_period(file: &[u8]) -> Result<Period, Refused> {
+    let mut numbers = Vec::new();
+    let mut next_byte = 0;
+    while let Some(field) = field_after(&numbers) {
+        let place = numbers.len();
+        match read_number(file, next_byte) {
+            Reading::Refused(refusal) => return Err(Reason::from(refusal).at(place)),
+            Reading::Number { value, .. } if !field.allowed.contains(&value) => {
+                return Err(field.reason.at(place));
+            }
+            Reading::Number { value, next } => {
+                numbers.push(value);
+                next_byte = next;
+            }
+        }
+    }
+    if next_byte < file.len() as u64 {
+        return Err(Reason::BytesAfter.at(numbers.len()));
+    }
+    Ok(Period::from_numbers(&numbers))
+}
+
+#[cfg(test)]
+mod tests {
+    use super::*;
+    use crate::numbers::number::{padded, write_number, LIMIT, MOST_GROUPS};
+    use crate::periods::paper::{whole_period, WHOLE_PERIOD};
+    use crate::periods::writing::{with_values, write_numbers, write_with_form};
+
+    fn refused(file: &[u8]) -> String {
+        match read_period(file) {
+            Ok(_) => "accepted".to_string(),
+            Err(refused) => refused.to_string(),
+        }
+    }
+
+    /// What the whole period is refused for with one number replaced.
+    fn refused_with(place: usize, value: u64) -> String {
+        refused(&write_numbers(&with_values(
+            &WHOLE_PERIOD,
+            &[(place, value)],
+        )))
+    }
+
+    #[test]
+    fn whole_period_is_read() {
+        let period = read_period(&whole_period()).expect("the period is whole");
+        assert_eq!(period.numbers(), WHOLE_PERIOD);
+    }
+
+    #[test]
+    fn file_that_ends_is_refused_at_the_number_that_is_missing() {
+        for place in 0..WHOLE_PERIOD.len() {
+            let before = write_numbers(&WHOLE_PERIOD[..place]);
+            assert_eq!(refused(&before), format!("R 1 {place}"));
+            let cut_inside = [&before[..], &[0x80]].concat();
+            assert_eq!(refused(&cut_inside), format!("R 1 {place}"));
+        }
+    }
+
+    #[test]
+    fn number_at_fault_is_refused_at_its_place() {
+        for (place, &value) in WHOLE_PERIOD.iter().enumerate() {
+            let own = write_number(value);
+            let longer = padded(&own, own.len() + 1);
+            let file = write_with_form(&WHOLE_PERIOD, place, &longer);
+            assert_eq!(refused(&file), format!("R 2 {place}"));
+            let file = write_with_form(&WHOLE_PERIOD, place, &[0x80; MOST_GROUPS]);
+            assert_eq!(refused(&file), format!("R 3 {place}"));
+            assert_eq!(refused_with(place, LIMIT + 1), format!("R 3 {place}"));
+        }
+    }
+
+    #[test]
+    fn header_is_tested_field_by_field() {
+        assert_eq!(refused_with(0, 0), "R 4 0");
+        assert_eq!(refused_with(0, 2), "R 4 0");
+        assert_eq!(refused_with(1, 0), "R 5 1");
+        assert_eq!(refused_with(1, 17), "R 5 1");
+        assert_eq!(refused_with(2, 0), "R 5 2");
+        assert_eq!(refused_with(2, 33), "R 5 2");
+        assert_eq!(refused_with(3, 513), "R 5 3");
+    }
+
+    #[test]
+    fn plant_is_tested_field_by_field() {
+        assert_eq!(refused_with(4, LIMIT), "accepted");
+        assert_eq!(refused_with(5, 0), "R 6 5");
+        assert_eq!(refused_with(5, 2), "accepted");
+        assert_eq!(refused_with(5, 3), "R 6 5");
+        assert_eq!(refused_with(9, 1_000_000), "accepted");
+        assert_eq!(refused_with(9, 1_000_001), "R 6 9");
+    }
+
+    #[test]
+    fn segment_is_tested_field_by_field() {
+        assert_eq!(refused_with(10, 0), "R 7 10");
+        assert_eq!(refused_with(10, 5), "accepted");
+        assert_eq!(refused_with(10, 7), "R 7 10");
+        assert_eq!(refused_with(11, LIMIT), "accepted");
+        assert_eq!(refused_with(12, 0), "R 7 12", "a pipeline leads on");
+        assert_eq!(refused_with(12, 1), "R 7 12", "not to itself");
+        assert_eq!(refused_with(12, 3), "R 7 12", "not past the last");
+        assert_eq!(refused_with(10, 6), "R 7 12", "a store leads nowhere");
+        assert_eq!(refused_with(13, 5), "R 7 15", "the last is a store");
+        assert_eq!(refused_with(15, 1), "R 7 15");
+    }
+
+    #[test]
+    fn line_is_tested_field_by_field() {
+        assert_eq!(refused_with(16, 2), "R 8 16");
+        assert_eq!(refused_with(17, 0), "R 8 17");
+        assert_eq!(refused_with(17, 3), "R 8 17");
+        assert_eq!(refused_with(18, 0), "R 8 18");
+        assert_eq!(refused_with(18, 8), "accepted");
+        assert_eq!(refused_with(18, 9), "R 8 18");
+        assert_eq!(refused_with(19, LIMIT), "accepted");
+        assert_eq!(refused_with(20, 1_000_000_000), "accepted");
+        assert_eq!(refused_with(20, 1_000_000_001), "R 8 20");
+        for class in [0, 1, 2, 8] {
+            assert_eq!(
+                refused_with(23, class),
+                "R 8 23",
+                "a segment's class {class}"
+            );
+        }
+        for class in 3..=7 {
+            assert_eq!(refused_with(23, class), "accepted");
+        }
+    }
+
+    #[test]
+    fn store_before_the_last_segment_is_allowed() {
+        let changes = [(10, 6), (12, 0)];
+        let file = write_numbers(&with_values(&WHOLE_PERIOD, &changes));
+        assert_eq!(refused(&file), "accepted");
+    }
+
+    #[test]
+    fn field_is_tested_before_the_next_number_is_read() {
+        assert_eq!(refused(&[0x02]), "R 4 0");
+        assert_eq!(refused(&[0x01, 0x00, 0x80, 0x00]), "R 5 1");
+        let mut file = write_numbers(&WHOLE_PERIOD[..5]);
+        file.push(0);
+        assert_eq!(refused(&file), "R 6 5");
+    }
+
+    #[test]
+    fn bytes_after_the_last_number_need_not_be_a_number() {
+        for after in [&[0x00][..], &[0x80], &[0x80, 0x00], &[0xFF; 6]] {
+            let file = [&whole_period(), after].concat();
+            assert_eq!(refused(&file), "R 9 26");
+        }
+    }
+}

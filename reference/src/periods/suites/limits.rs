@@ -1,0 +1,80 @@
+//! Files at the limits of the counts and of the fields, and one past them.
+
+use super::whole_files::of_counts;
+use crate::periods::fields::fields_of;
+use crate::periods::records::{Line, Plant, Segment, HEADER_NUMBERS};
+use crate::periods::writing::{with_values, write_numbers};
+use std::ops::{Range, RangeInclusive};
+
+/// Lines at which the fields of a file with many lines are changed.
+const LINES_CHANGED: [usize; 6] = [1, 2, 255, 256, 511, 512];
+
+/// Counts at and past their limits, and every field of the largest files likewise.
+pub fn at_and_one_past() -> Vec<Vec<u8>> {
+    let mut files = files_of_counts();
+    files.extend(counts_beside_the_records());
+
+    let many_segments = of_counts(*Plant::COUNT.end(), *Segment::COUNT.end(), 0);
+    let all_places = HEADER_NUMBERS..many_segments.len();
+    files.extend(fields_around_limits(&many_segments, all_places));
+
+    let many_lines = of_counts(1, 1, *Line::COUNT.end());
+    let first_line = many_lines.len() - *Line::COUNT.end() as usize * Line::NUMBERS;
+    for line in LINES_CHANGED {
+        let record = first_line + (line - 1) * Line::NUMBERS;
+        let places = record..record + Line::NUMBERS;
+        files.extend(fields_around_limits(&many_lines, places));
+    }
+    files
+}
+
+/// Files with just as many records as each combination of counts says.
+fn files_of_counts() -> Vec<Vec<u8>> {
+    let mut files = Vec::new();
+    for plants in counts_around(&Plant::COUNT) {
+        for segments in counts_around(&Segment::COUNT) {
+            for lines in counts_around(&Line::COUNT) {
+                files.push(write_numbers(&of_counts(plants, segments, lines)));
+            }
+        }
+    }
+    files
+}
+
+/// 0, 1, the most, and one more.
+fn counts_around(range: &RangeInclusive<u64>) -> [u64; 4] {
+    [0, 1, *range.end(), range.end() + 1]
+}
+
+/// The largest file, each count of its header one less and one more than there are records.
+fn counts_beside_the_records() -> Vec<Vec<u8>> {
+    let numbers = of_counts(
+        *Plant::COUNT.end(),
+        *Segment::COUNT.end(),
+        *Line::COUNT.end(),
+    );
+    let mut files = Vec::new();
+    for place in 1..HEADER_NUMBERS {
+        for count in [numbers[place] - 1, numbers[place] + 1] {
+            files.push(write_numbers(&with_values(&numbers, &[(place, count)])));
+        }
+    }
+    files
+}
+
+/// Each number at these places replaced by its field's limits and by the values next to them.
+fn fields_around_limits(numbers: &[u64], places: Range<usize>) -> Vec<Vec<u8>> {
+    let fields = fields_of(numbers);
+    let mut files = Vec::new();
+    for place in places {
+        let (lowest, largest) = (*fields[place].allowed.start(), *fields[place].allowed.end());
+        let mut values = vec![lowest, largest, largest + 1];
+        if lowest > 0 {
+            values.push(lowest - 1);
+        }
+        for value in values {
+            files.push(write_numbers(&with_values(numbers, &[(place, value)])));
+        }
+    }
+    files
+}

@@ -1,0 +1,61 @@
+//! What can be asked of a program: many questions in one run, one answer line for each.
+
+/// A question that is put to a program as a frame of bytes and has one right answer.
+pub trait Question: Sized {
+    /// The labels of all answers such a question can have, in the order of the report.
+    const LABELS: &'static [&'static str];
+
+    /// Appends the frame that puts the question.
+    fn write_frame(&self, frames: &mut Vec<u8>);
+
+    /// The question of the first frame and what follows it; nothing if the frame is cut short.
+    fn first_frame(input: &[u8]) -> Option<(Self, &[u8])>;
+
+    /// Our own answer, one line with its newline.
+    fn answer_line(&self) -> String;
+
+    /// All that is needed to ask the question again, in words.
+    fn in_words(&self) -> String;
+}
+
+/// Questions that are compared and counted together.
+pub struct Suite<Q> {
+    pub name: &'static str,
+    pub cases: Vec<Q>,
+}
+
+/// The label of an answer line: its letter, and for a refusal its number too.
+pub fn label_of(line: &str) -> String {
+    let mut words = line.split_whitespace();
+    match words.next() {
+        Some("R") => format!("R{}", words.next().unwrap_or_default()),
+        letter => letter.unwrap_or_default().to_string(),
+    }
+}
+
+/// Bytes as upper-case hex digits, with the given text between them.
+pub fn hex(bytes: &[u8], between: &str) -> String {
+    let digits: Vec<String> = bytes.iter().map(|byte| format!("{byte:02X}")).collect();
+    digits.join(between)
+}
+
+#[cfg(test)]
+mod tests {
+    use super::*;
+
+    #[test]
+    fn labels_tell_refusals_apart() {
+        assert_eq!(label_of("N 300 3\n"), "N");
+        assert_eq!(label_of("R 1 7\n"), "R1");
+        assert_eq!(label_of("R 12 7\n"), "R12");
+        assert_eq!(label_of("A 1 1 1 0\n"), "A");
+        assert_eq!(label_of("\n"), "");
+    }
+
+    #[test]
+    fn hex_has_two_digits_a_byte() {
+        assert_eq!(hex(&[0x01, 0xAC], " "), "01 AC");
+        assert_eq!(hex(&[0x01, 0xAC], ""), "01AC");
+        assert_eq!(hex(&[], " "), "");
+    }
+}
