@@ -7,5 +7,8 @@ mod Runs
 mod Fields
 mod Stages
 mod Whole
+mod WaysOut
+-- No two outcomes meet a promise.
+pub mod Outcome
 -- The whole period of 01 and its proved cases.
 pub mod Examples

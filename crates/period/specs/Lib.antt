@@ -19,6 +19,7 @@ pub mod Rows
 -- the answer to a file
 pub mod Quantified
 -- the code's answers in these terms
+pub mod Limits
 pub mod Answers
 pub mod Held
 pub mod Inside

@@ -14,7 +14,7 @@ ghost use Rattle.period.specs.Periods.{headerNumbers, records, ended, pe
 ghost use Rattle.period.specs.Held.{Held};
 ghost use Rattle.period.specs.Inside.{announced, nothing};
 
-mod header;
+pub(crate) mod header;
 mod lines;
 mod plants;
 mod segments;

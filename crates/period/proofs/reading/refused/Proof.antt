@@ -1,5 +1,5 @@
 -- `period::reading::refused` meets its contract: its arrays hold nothing. Assumes nothing.
-use mathlib.Core.Path.{ap, _∙_}
+use mathlib.Core.Path.{_≡_, ap, _∙_}
 use lib.ListN.{replicate}
 use borrow.Author.Needs.{needs}
 use Rattle.period.specs.declared.answer.Answer.{Answer}
@@ -9,7 +9,7 @@ use Rattle.period.specs.declared.records.segment.Segment.{Segment}
 use Rattle.period.specs.declared.records.line.Line.{Line}
 use Rattle.period.specs.Plants.{mostPlants, noPlant}
 use Rattle.period.specs.Segments.{mostSegments, noSegment}
-use Rattle.period.specs.Lines.{mostLines}
+use Rattle.period.specs.Lines.{mostLines, noLine}
 use Rattle.period.proofs.reading.refused.Statement.{statement}
 use Rattle.period.proofs.reading.refused.Tie as tie
 
@@ -37,9 +37,12 @@ new-requires-3 c κs = search needs
 returns : tie.Need-returns
 returns c =
     let answer = c .before .before .before .args .answer in
-    ap (λ (p : Plant). zeros answer p (c .before .new2 .result) (c .new3 .result)) (c .before .before .new .ensures)
-    ∙ ap (λ (s : Segment). zeros answer noPlant s (c .new3 .result)) (c .before .new2 .ensures)
-    ∙ ap (zeros answer noPlant noSegment) (c .new3 .ensures)
+    let plant-is : c .before .before .new .result ≡ noPlant = c .before .before .new .ensures in
+    let segment-is : c .before .new2 .result ≡ noSegment = c .before .new2 .ensures in
+    let line-is : c .new3 .result ≡ noLine = c .new3 .ensures in
+    ap (λ (p : Plant). zeros answer p (c .before .new2 .result) (c .new3 .result)) plant-is
+    ∙ ap (λ (s : Segment). zeros answer noPlant s (c .new3 .result)) segment-is
+    ∙ ap (zeros answer noPlant noSegment) line-is
 
 pub refused-spec : {M : Type 1} → statement M
 refused-spec = tie.close (tie.spec new-requires new-requires-2 new-requires-3 returns)

@@ -18,31 +18,67 @@ use Rattle.period.proofs.reading.header.read_header.Statement.{statemen
 use Rattle.period.proofs.reading.header.read_header.Tie as tie
 
 -- the edition is read and allowed
+abbrev start-of-edition : tie.Else1 → tie.Start
+start-of-edition c = c .before .before .before .before .before .before
+
+abbrev value-of-edition : tie.Else1 → ℕ
+value-of-edition c = c .before .before .found .given .0 .0
+
+abbrev after-edition : tie.Else1 → ℕ
+after-edition c = c .before .before .found .given .0 .1 .0
+
 edition-read :
     (c : tie.Else1) {then : ℕ → Reader Header} {outcome : Read Header} →
-    Comes (now (c .before .before .before .before .before .before .args .file)) (then (c .before .before .found .given .0 .0)) 1 (c .before .before .found .given .0 .1 .0) outcome →
-    Comes (now (c .before .before .before .before .before .before .args .file)) (wants wrongEdition (eqb edition) then) 0 0 outcome
-edition-read c later = goes (got (c .before .before .before .before .read-at .ensures) (c .before .before .found .given .1)) (eq-eqb edition (c .before .before .found .given .0 .0) (sym (c .if1 .left))) later
+    Comes (now (start-of-edition c .args .file)) (then (value-of-edition c)) 1 (after-edition c) outcome →
+    Comes (now (start-of-edition c .args .file)) (wants wrongEdition (eqb edition) then) 0 0 outcome
+edition-read c later = goes (got (c .before .before .before .before .read-at .ensures) (c .before .before .found .given .1)) (eq-eqb edition (value-of-edition c) (sym (c .if1 .left))) later
 
 -- then the count of plants
+abbrev start-of-plants : tie.Else2 → tie.Start
+start-of-plants c = c .before .before .before .before .before .before .before .before .before .before .before .before
+
+abbrev value-of-plants : tie.Else2 → ℕ
+value-of-plants c = c .before .before .before .found2 .given .0 .0
+
+abbrev after-plants : tie.Else2 → ℕ
+after-plants c = c .before .before .before .found2 .given .0 .1 .0
+
 plants-read :
     (c : tie.Else2) {then : ℕ → Reader Header} {outcome : Read Header} →
-    Comes (now (c .before .before .before .before .before .before .before .before .before .before .before .before .args .file)) (then (c .before .before .before .found2 .given .0 .0)) 2 (c .before .before .before .found2 .given .0 .1 .0) outcome →
-    Comes (now (c .before .before .before .before .before .before .before .before .before .before .before .before .args .file)) (wants wrongCount plantsAllowed then) 1 (c .before .before .before .before .before .before .before .before .found .given .0 .1 .0) outcome
+    Comes (now (start-of-plants c .args .file)) (then (value-of-plants c)) 2 (after-plants c) outcome →
+    Comes (now (start-of-plants c .args .file)) (wants wrongCount plantsAllowed then) 1 (after-edition (c .before .before .before .before .before .before)) outcome
 plants-read c later = goes (got (c .before .before .before .before .before .read-at2 .ensures) (c .before .before .before .found2 .given .1)) (sym (c .before .count-allowed .ensures) ∙ not-false (c .before .count-allowed .result) (c .if2 .left)) later
 
 -- then that of segments
+abbrev start-of-segments : tie.Else3 → tie.Start
+start-of-segments c = c .before .before .before .before .before .before .before .before .before .before .before .before .before .before .before .before .before .before
+
+abbrev value-of-segments : tie.Else3 → ℕ
+value-of-segments c = c .before .before .before .found3 .given .0 .0
+
+abbrev after-segments : tie.Else3 → ℕ
+after-segments c = c .before .before .before .found3 .given .0 .1 .0
+
 segments-read :
     (c : tie.Else3) {then : ℕ → Reader Header} {outcome : Read Header} →
-    Comes (now (c .before .before .before .before .before .before .before .before .before .before .before .before .before .before .before .before .before .before .args .file)) (then (c .before .before .before .found3 .given .0 .0)) 3 (c .before .before .before .found3 .given .0 .1 .0) outcome →
-    Comes (now (c .before .before .before .before .before .before .before .before .before .before .before .before .before .before .before .before .before .before .args .file)) (wants wrongCount segmentsAllowed then) 2 (c .before .before .before .before .before .before .before .before .before .found2 .given .0 .1 .0) outcome
+    Comes (now (start-of-segments c .args .file)) (then (value-of-segments c)) 3 (after-segments c) outcome →
+    Comes (now (start-of-segments c .args .file)) (wants wrongCount segmentsAllowed then) 2 (after-plants (c .before .before .before .before .before .before)) outcome
 segments-read c later = goes (got (c .before .before .before .before .before .read-at3 .ensures) (c .before .before .before .found3 .given .1)) (sym (c .before .count-allowed2 .ensures) ∙ not-false (c .before .count-allowed2 .result) (c .if3 .left)) later
 
 -- then that of lines
+abbrev start-of-lines : tie.Else4 → tie.Start
+start-of-lines c = c .before .before .before .before .before .before .before .before .before .before .before .before .before .before .before .before .before .before .before .before .before .before .before .before
+
+abbrev value-of-lines : tie.Else4 → ℕ
+value-of-lines c = c .before .before .before .found4 .given .0 .0
+
+abbrev after-lines : tie.Else4 → ℕ
+after-lines c = c .before .before .before .found4 .given .0 .1 .0
+
 lines-read :
     (c : tie.Else4) {then : ℕ → Reader Header} {outcome : Read Header} →
-    Comes (now (c .before .before .before .before .before .before .before .before .before .before .before .before .before .before .before .before .before .before .before .before .before .before .before .before .args .file)) (then (c .before .before .before .found4 .given .0 .0)) 4 (c .before .before .before .found4 .given .0 .1 .0) outcome →
-    Comes (now (c .before .before .before .before .before .before .before .before .before .before .before .before .before .before .before .before .before .before .before .before .before .before .before .before .args .file)) (wants wrongCount linesAllowed then) 3 (c .before .before .before .before .before .before .before .before .before .found3 .given .0 .1 .0) outcome
+    Comes (now (start-of-lines c .args .file)) (then (value-of-lines c)) 4 (after-lines c) outcome →
+    Comes (now (start-of-lines c .args .file)) (wants wrongCount linesAllowed then) 3 (after-segments (c .before .before .before .before .before .before)) outcome
 lines-read c later = goes (got (c .before .before .before .before .before .read-at4 .ensures) (c .before .before .before .found4 .given .1)) (sym (c .before .count-allowed3 .ensures) ∙ not-false (c .before .count-allowed3 .result) (c .if4 .left)) later
 
 read-at-requires : tie.Need-read-at-requires
@@ -133,7 +169,7 @@ returns-8 c =
 returns-9 : tie.Need-returns-9
 unfolding header
 returns-9 c =
-    (comes (now (c .before .before .before .before .before .before .before .before .before .before .before .before .before .before .before .before .before .before .before .before .before .before .before .before .args .file)) (edition-read (c .before .before .before .before .before .before .before .before .before .before .before .before .before .before .before .before .before .before) (plants-read (c .before .before .before .before .before .before .before .before .before .before .before .before) (segments-read (c .before .before .before .before .before .before) (lines-read (c) done)))), at-most 1 mostPlants (c .before .before .before .before .before .before .before .before .before .before .before .before .before .before .before .found2 .given .0 .0) (sym (c .before .before .before .before .before .before .before .before .before .before .before .before .before .count-allowed .ensures) ∙ not-false (c .before .before .before .before .before .before .before .before .before .before .before .before .before .count-allowed .result) (c .before .before .before .before .before .before .before .before .before .before .before .before .if2 .left)), at-most 1 mostSegments (c .before .before .before .before .before .before .before .before .before .found3 .given .0 .0) (sym (c .before .before .before .before .before .before .before .count-allowed2 .ensures) ∙ not-false (c .before .before .before .before .before .before .before .count-allowed2 .result) (c .before .before .before .before .before .before .if3 .left)), leb-true (c .before .before .before .found4 .given .0 .0) mostLines (sym (c .before .count-allowed3 .ensures) ∙ not-false (c .before .count-allowed3 .result) (c .if4 .left)))
+    (comes (now (start-of-lines c .args .file)) (edition-read (c .before .before .before .before .before .before .before .before .before .before .before .before .before .before .before .before .before .before) (plants-read (c .before .before .before .before .before .before .before .before .before .before .before .before) (segments-read (c .before .before .before .before .before .before) (lines-read (c) done)))), at-most 1 mostPlants (value-of-plants (c .before .before .before .before .before .before .before .before .before .before .before .before)) (sym (c .before .before .before .before .before .before .before .before .before .before .before .before .before .count-allowed .ensures) ∙ not-false (c .before .before .before .before .before .before .before .before .before .before .before .before .before .count-allowed .result) (c .before .before .before .before .before .before .before .before .before .before .before .before .if2 .left)), at-most 1 mostSegments (value-of-segments (c .before .before .before .before .before .before)) (sym (c .before .before .before .before .before .before .before .count-allowed2 .ensures) ∙ not-false (c .before .before .before .before .before .before .before .count-allowed2 .result) (c .before .before .before .before .before .before .if3 .left)), leb-true (value-of-lines c) mostLines (sym (c .before .count-allowed3 .ensures) ∙ not-false (c .before .count-allowed3 .result) (c .if4 .left)))
 
 pub read-header-spec : {M : Type 1} → statement M
 read-header-spec =

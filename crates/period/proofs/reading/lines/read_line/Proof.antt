@@ -24,38 +24,83 @@ use Rattle.period.proofs.reading.lines.read_line.Statement.{statement}
 use Rattle.period.proofs.reading.lines.read_line.Tie as tie
 
 -- the kind of the owner is read and allowed
+abbrev start-of-owner-kind : tie.Else1 → tie.Start
+start-of-owner-kind c = c .before .before .before .before .before .before .before
+
+abbrev value-of-owner-kind : tie.Else1 → ℕ
+value-of-owner-kind c = c .before .before .before .found .given .0 .0
+
+abbrev after-owner-kind : tie.Else1 → ℕ
+after-owner-kind c = c .before .before .before .found .given .0 .1 .0
+
 owner-kind-read :
     (c : tie.Else1) {then : ℕ → Reader Line} {outcome : Read Line} →
-    Comes (now (c .before .before .before .before .before .before .before .args .file)) (then (c .before .before .before .found .given .0 .0)) (suc (c .before .before .before .before .before .before .before .args .place)) (c .before .before .before .found .given .0 .1 .0) outcome →
-    Comes (now (c .before .before .before .before .before .before .before .args .file)) (wants wrongLine ownerKindAllowed then) (c .before .before .before .before .before .before .before .args .place) (c .before .before .before .before .before .before .before .args .at) outcome
+    Comes (now (start-of-owner-kind c .args .file)) (then (value-of-owner-kind c)) (suc (start-of-owner-kind c .args .place)) (after-owner-kind c) outcome →
+    Comes (now (start-of-owner-kind c .args .file)) (wants wrongLine ownerKindAllowed then) (start-of-owner-kind c .args .place) (start-of-owner-kind c .args .at) outcome
 owner-kind-read c later = goes (got (c .before .before .before .before .before .read-at .ensures) (c .before .before .before .found .given .1)) (sym (c .before .owner-kind-allowed .ensures) ∙ not-false (c .before .owner-kind-allowed .result) (c .if1 .left)) later
 
 -- then the owner
+abbrev start-of-owner : tie.Else2 → tie.Start
+start-of-owner c = c .before .before .before .before .before .before .before .before .before .before .before .before .before
+
+abbrev value-of-owner : tie.Else2 → ℕ
+value-of-owner c = c .before .before .before .found2 .given .0 .0
+
+abbrev after-owner : tie.Else2 → ℕ
+after-owner c = c .before .before .before .found2 .given .0 .1 .0
+
 owner-read :
     (c : tie.Else2) {then : ℕ → Reader Line} {outcome : Read Line} →
-    Comes (now (c .before .before .before .before .before .before .before .before .before .before .before .before .before .args .file)) (then (c .before .before .before .found2 .given .0 .0)) (suc (suc (c .before .before .before .before .before .before .before .before .before .before .before .before .before .args .place))) (c .before .before .before .found2 .given .0 .1 .0) outcome →
-    Comes (now (c .before .before .before .before .before .before .before .before .before .before .before .before .before .args .file)) (wants wrongLine (ownerAllowed (c .before .before .before .before .before .before .before .before .before .before .before .before .before .args .plants) (c .before .before .before .before .before .before .before .before .before .before .before .before .before .args .segments) (c .before .before .before .before .before .before .before .before .before .found .given .0 .0)) then) (suc (c .before .before .before .before .before .before .before .before .before .before .before .before .before .args .place)) (c .before .before .before .before .before .before .before .before .before .found .given .0 .1 .0) outcome
+    Comes (now (start-of-owner c .args .file)) (then (value-of-owner c)) (suc (suc (start-of-owner c .args .place))) (after-owner c) outcome →
+    Comes (now (start-of-owner c .args .file)) (wants wrongLine (ownerAllowed (start-of-owner c .args .plants) (start-of-owner c .args .segments) (value-of-owner-kind (c .before .before .before .before .before .before))) then) (suc (start-of-owner c .args .place)) (after-owner-kind (c .before .before .before .before .before .before)) outcome
 owner-read c later = goes (got (c .before .before .before .before .before .read-at2 .ensures) (c .before .before .before .found2 .given .1)) (sym (c .before .owner-allowed .ensures) ∙ not-false (c .before .owner-allowed .result) (c .if2 .left)) later
 
 -- then the class, which is allowed this owner
+abbrev start-of-class : tie.Else3 → tie.Start
+start-of-class c = c .before .before .before .before .before .before .before .before .before .before .before .before .before .before .before .before .before .before .before
+
+abbrev value-of-class : tie.Else3 → ℕ
+value-of-class c = c .before .before .before .found3 .given .0 .0
+
+abbrev after-class : tie.Else3 → ℕ
+after-class c = c .before .before .before .found3 .given .0 .1 .0
+
 class-read :
     (c : tie.Else3) {then : ℕ → Reader Line} {outcome : Read Line} →
-    Comes (now (c .before .before .before .before .before .before .before .before .before .before .before .before .before .before .before .before .before .before .before .args .file)) (then (c .before .before .before .found3 .given .0 .0)) (suc (suc (suc (c .before .before .before .before .before .before .before .before .before .before .before .before .before .before .before .before .before .before .before .args .place)))) (c .before .before .before .found3 .given .0 .1 .0) outcome →
-    Comes (now (c .before .before .before .before .before .before .before .before .before .before .before .before .before .before .before .before .before .before .before .args .file)) (wants wrongLine (classAllowed (c .before .before .before .before .before .before .before .before .before .before .before .before .before .before .before .found .given .0 .0)) then) (suc (suc (c .before .before .before .before .before .before .before .before .before .before .before .before .before .before .before .before .before .before .before .args .place))) (c .before .before .before .before .before .before .before .before .before .found2 .given .0 .1 .0) outcome
+    Comes (now (start-of-class c .args .file)) (then (value-of-class c)) (suc (suc (suc (start-of-class c .args .place)))) (after-class c) outcome →
+    Comes (now (start-of-class c .args .file)) (wants wrongLine (classAllowed (value-of-owner-kind (c .before .before .before .before .before .before .before .before .before .before .before .before))) then) (suc (suc (start-of-class c .args .place))) (after-owner (c .before .before .before .before .before .before)) outcome
 class-read c later = goes (got (c .before .before .before .before .before .read-at3 .ensures) (c .before .before .before .found3 .given .1)) (sym (c .before .allowed .ensures) ∙ not-false (c .before .allowed .result) (c .if3 .left)) later
 
 -- then the quantity
+abbrev start-of-quantity : tie.After-known-told4 → tie.Start
+start-of-quantity c = c .before .before .before .before .before .before .before .before .before .before .before .before .before .before .before .before .before .before .before .before .before .before .before
+
+abbrev value-of-quantity : tie.After-known-told4 → ℕ
+value-of-quantity c = c .before .found4 .given .0 .0
+
+abbrev after-quantity : tie.After-known-told4 → ℕ
+after-quantity c = c .before .found4 .given .0 .1 .0
+
 quantity-read :
     (c : tie.After-known-told4) {then : ℕ → Reader Line} {outcome : Read Line} →
-    Comes (now (c .before .before .before .before .before .before .before .before .before .before .before .before .before .before .before .before .before .before .before .before .before .before .before .args .file)) (then (c .before .found4 .given .0 .0)) (suc (suc (suc (suc (c .before .before .before .before .before .before .before .before .before .before .before .before .before .before .before .before .before .before .before .before .before .before .before .args .place))))) (c .before .found4 .given .0 .1 .0) outcome →
-    Comes (now (c .before .before .before .before .before .before .before .before .before .before .before .before .before .before .before .before .before .before .before .before .before .before .before .args .file)) (wants wrongLine anyAmount then) (suc (suc (suc (c .before .before .before .before .before .before .before .before .before .before .before .before .before .before .before .before .before .before .before .before .before .before .before .args .place)))) (c .before .before .before .before .before .before .before .found3 .given .0 .1 .0) outcome
+    Comes (now (start-of-quantity c .args .file)) (then (value-of-quantity c)) (suc (suc (suc (suc (start-of-quantity c .args .place))))) (after-quantity c) outcome →
+    Comes (now (start-of-quantity c .args .file)) (wants wrongLine anyAmount then) (suc (suc (suc (start-of-quantity c .args .place)))) (after-class (c .before .before .before .before)) outcome
 quantity-read c later = goes (got (c .before .before .before .read-at4 .ensures) (c .before .found4 .given .1)) refl later
 
 -- then the factor
+abbrev start-of-factor : tie.Else4 → tie.Start
+start-of-factor c = c .before .before .before .before .before .before .before .before .before .before .before .before .before .before .before .before .before .before .before .before .before .before .before .before .before .before .before .before .before
+
+abbrev value-of-factor : tie.Else4 → ℕ
+value-of-factor c = c .before .before .before .found5 .given .0 .0
+
+abbrev after-factor : tie.Else4 → ℕ
+after-factor c = c .before .before .before .found5 .given .0 .1 .0
+
 factor-read :
     (c : tie.Else4) {then : ℕ → Reader Line} {outcome : Read Line} →
-    Comes (now (c .before .before .before .before .before .before .before .before .before .before .before .before .before .before .before .before .before .before .before .before .before .before .before .before .before .before .before .before .before .args .file)) (then (c .before .before .before .found5 .given .0 .0)) (suc (suc (suc (suc (suc (c .before .before .before .before .before .before .before .before .before .before .before .before .before .before .before .before .before .before .before .before .before .before .before .before .before .before .before .before .before .args .place)))))) (c .before .before .before .found5 .given .0 .1 .0) outcome →
-    Comes (now (c .before .before .before .before .before .before .before .before .before .before .before .before .before .before .before .before .before .before .before .before .before .before .before .before .before .before .before .before .before .args .file)) (wants wrongLine factorAllowed then) (suc (suc (suc (suc (c .before .before .before .before .before .before .before .before .before .before .before .before .before .before .before .before .before .before .before .before .before .before .before .before .before .before .before .before .before .args .place))))) (c .before .before .before .before .before .before .before .found4 .given .0 .1 .0) outcome
+    Comes (now (start-of-factor c .args .file)) (then (value-of-factor c)) (suc (suc (suc (suc (suc (start-of-factor c .args .place)))))) (after-factor c) outcome →
+    Comes (now (start-of-factor c .args .file)) (wants wrongLine factorAllowed then) (suc (suc (suc (suc (start-of-factor c .args .place))))) (after-quantity (c .before .before .before .before .before .before)) outcome
 factor-read c later = goes (got (c .before .before .before .before .before .read-at5 .ensures) (c .before .before .before .found5 .given .1)) (sym (c .before .factor-allowed .ensures) ∙ not-false (c .before .factor-allowed .result) (c .if4 .left)) later
 
 read-at-requires : tie.Need-read-at-requires
@@ -183,12 +228,12 @@ returns-9 c =
 
 new-requires : tie.Need-new-requires
 new-requires c κs =
-    (leb-true (c .before .before .before .before .before .before .before .before .before .before .before .before .before .before .before .before .before .before .before .before .before .before .before .before .before .found .given .0 .0) segmentOwner (sym (c .before .before .before .before .before .before .before .before .before .before .before .before .before .before .before .before .before .before .before .before .before .before .before .owner-kind-allowed .ensures) ∙ not-false (c .before .before .before .before .before .before .before .before .before .before .before .before .before .before .before .before .before .before .before .before .before .before .before .owner-kind-allowed .result) (c .before .before .before .before .before .before .before .before .before .before .before .before .before .before .before .before .before .before .before .before .before .before .if1 .left)), owner-at-most (c .before .before .before .before .before .before .before .before .before .before .before .before .before .before .before .before .before .before .before .before .before .before .before .before .before .before .before .before .before .args .plants) (c .before .before .before .before .before .before .before .before .before .before .before .before .before .before .before .before .before .before .before .before .before .before .before .before .before .before .before .before .before .args .segments) (c .before .before .before .before .before .before .before .before .before .before .before .before .before .before .before .before .before .before .before .before .before .before .before .before .before .found .given .0 .0) (c .before .before .before .before .before .before .before .before .before .before .before .before .before .before .before .before .before .before .before .found2 .given .0 .0) mostSegments (omega (arith, c .before .before .before .before .before .before .before .before .before .before .before .before .before .before .before .before .before .before .before .before .before .before .before .before .before .before .before .before .before .pre)) (omega (arith, c .before .before .before .before .before .before .before .before .before .before .before .before .before .before .before .before .before .before .before .before .before .before .before .before .before .before .before .before .before .pre)) (sym (c .before .before .before .before .before .before .before .before .before .before .before .before .before .before .before .before .before .owner-allowed .ensures) ∙ not-false (c .before .before .before .before .before .before .before .before .before .before .before .before .before .before .before .before .before .owner-allowed .result) (c .before .before .before .before .before .before .before .before .before .before .before .before .before .before .before .before .if2 .left)), code-at-most (c .before .before .before .before .before .before .before .before .before .before .before .before .before .before .before .before .before .before .before .before .before .before .before .before .before .found .given .0 .0) (c .before .before .before .before .before .before .before .before .before .before .before .before .before .found3 .given .0 .0) (sym (c .before .before .before .before .before .before .before .before .before .before .before .allowed .ensures) ∙ not-false (c .before .before .before .before .before .before .before .before .before .before .before .allowed .result) (c .before .before .before .before .before .before .before .before .before .before .if3 .left)), bounds (now (c .before .before .before .before .before .before .before .before .before .before .before .before .before .before .before .before .before .before .before .before .before .before .before .before .before .before .before .before .before .args .file)) (c .before .before .before .before .before .before .before .before .before .before .before .before .before .found3 .given .0 .1 .0) (c .before .before .before .before .before .before .before .found4 .given .0 .0) (c .before .before .before .before .before .before .before .found4 .given .0 .1 .0) (got (c .before .before .before .before .before .before .before .before .before .read-at4 .ensures) (c .before .before .before .before .before .before .before .found4 .given .1)) .small, leb-true (c .before .before .before .found5 .given .0 .0) largestFactor (sym (c .before .factor-allowed .ensures) ∙ not-false (c .before .factor-allowed .result) (c .if4 .left)))
+    (leb-true (value-of-owner-kind (c .before .before .before .before .before .before .before .before .before .before .before .before .before .before .before .before .before .before .before .before .before .before)) segmentOwner (sym (c .before .before .before .before .before .before .before .before .before .before .before .before .before .before .before .before .before .before .before .before .before .before .before .owner-kind-allowed .ensures) ∙ not-false (c .before .before .before .before .before .before .before .before .before .before .before .before .before .before .before .before .before .before .before .before .before .before .before .owner-kind-allowed .result) (c .before .before .before .before .before .before .before .before .before .before .before .before .before .before .before .before .before .before .before .before .before .before .if1 .left)), owner-at-most (c .before .before .before .before .before .before .before .before .before .before .before .before .before .before .before .before .before .before .before .before .before .before .before .before .before .before .before .before .before .args .plants) (c .before .before .before .before .before .before .before .before .before .before .before .before .before .before .before .before .before .before .before .before .before .before .before .before .before .before .before .before .before .args .segments) (value-of-owner-kind (c .before .before .before .before .before .before .before .before .before .before .before .before .before .before .before .before .before .before .before .before .before .before)) (value-of-owner (c .before .before .before .before .before .before .before .before .before .before .before .before .before .before .before .before)) mostSegments (omega (arith, c .before .before .before .before .before .before .before .before .before .before .before .before .before .before .before .before .before .before .before .before .before .before .before .before .before .before .before .before .before .pre)) (omega (arith, c .before .before .before .before .before .before .before .before .before .before .before .before .before .before .before .before .before .before .before .before .before .before .before .before .before .before .before .before .before .pre)) (sym (c .before .before .before .before .before .before .before .before .before .before .before .before .before .before .before .before .before .owner-allowed .ensures) ∙ not-false (c .before .before .before .before .before .before .before .before .before .before .before .before .before .before .before .before .before .owner-allowed .result) (c .before .before .before .before .before .before .before .before .before .before .before .before .before .before .before .before .if2 .left)), code-at-most (value-of-owner-kind (c .before .before .before .before .before .before .before .before .before .before .before .before .before .before .before .before .before .before .before .before .before .before)) (value-of-class (c .before .before .before .before .before .before .before .before .before .before)) (sym (c .before .before .before .before .before .before .before .before .before .before .before .allowed .ensures) ∙ not-false (c .before .before .before .before .before .before .before .before .before .before .before .allowed .result) (c .before .before .before .before .before .before .before .before .before .before .if3 .left)), bounds (now (start-of-factor c .args .file)) (after-class (c .before .before .before .before .before .before .before .before .before .before)) (value-of-quantity (c .before .before .before .before .before .before)) (after-quantity (c .before .before .before .before .before .before)) (got (c .before .before .before .before .before .before .before .before .before .read-at4 .ensures) (c .before .before .before .before .before .before .before .found4 .given .1)) .small, leb-true (value-of-factor c) largestFactor (sym (c .before .factor-allowed .ensures) ∙ not-false (c .before .factor-allowed .result) (c .if4 .left)))
 
 returns-10 : tie.Need-returns-10
 unfolding line
 returns-10 c =
-    comes (now (c .before .before .before .before .before .before .before .before .before .before .before .before .before .before .before .before .before .before .before .before .before .before .before .before .before .before .before .before .before .before .args .file)) (owner-kind-read (c .before .before .before .before .before .before .before .before .before .before .before .before .before .before .before .before .before .before .before .before .before .before .before) (owner-read (c .before .before .before .before .before .before .before .before .before .before .before .before .before .before .before .before .before) (class-read (c .before .before .before .before .before .before .before .before .before .before .before) (quantity-read (c .before .before .before .before .before .before .before) (factor-read (c .before) done))))) ∙ ap (λ (x : Line). read x (suc (suc (suc (suc (suc (c .before .before .before .before .before .before .before .before .before .before .before .before .before .before .before .before .before .before .before .before .before .before .before .before .before .before .before .before .before .before .args .place)))))) (run (drop (c .before .before .before .before .found5 .given .0 .1 .0) (now (c .before .before .before .before .before .before .before .before .before .before .before .before .before .before .before .before .before .before .before .before .before .before .before .before .before .before .before .before .before .before .args .file))))) (sym (c .new .ensures))
+    comes (now (c .before .before .before .before .before .before .before .before .before .before .before .before .before .before .before .before .before .before .before .before .before .before .before .before .before .before .before .before .before .before .args .file)) (owner-kind-read (c .before .before .before .before .before .before .before .before .before .before .before .before .before .before .before .before .before .before .before .before .before .before .before) (owner-read (c .before .before .before .before .before .before .before .before .before .before .before .before .before .before .before .before .before) (class-read (c .before .before .before .before .before .before .before .before .before .before .before) (quantity-read (c .before .before .before .before .before .before .before) (factor-read (c .before) done))))) ∙ ap (λ (x : Line). read x (suc (suc (suc (suc (suc (c .before .before .before .before .before .before .before .before .before .before .before .before .before .before .before .before .before .before .before .before .before .before .before .before .before .before .before .before .before .before .args .place)))))) (run (drop (after-factor (c .before)) (now (c .before .before .before .before .before .before .before .before .before .before .before .before .before .before .before .before .before .before .before .before .before .before .before .before .before .before .before .before .before .before .args .file))))) (sym (c .new .ensures))
 
 pub read-line-spec : {M : Type 1} → statement M
 read-line-spec =

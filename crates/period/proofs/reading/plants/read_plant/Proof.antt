@@ -21,24 +21,51 @@ use Rattle.period.proofs.reading.plants.read_plant.Statement.{statement
 use Rattle.period.proofs.reading.plants.read_plant.Tie as tie
 
 -- the export is read
+abbrev start-of-exported : tie.After-known-told → tie.Start
+start-of-exported c = c .before .before .before .before .before
+
+abbrev value-of-exported : tie.After-known-told → ℕ
+value-of-exported c = c .before .found .given .0 .0
+
+abbrev after-exported : tie.After-known-told → ℕ
+after-exported c = c .before .found .given .0 .1 .0
+
 exported-read :
     (c : tie.After-known-told) {then : ℕ → Reader Plant} {outcome : Read Plant} →
-    Comes (now (c .before .before .before .before .before .args .file)) (then (c .before .found .given .0 .0)) (suc (c .before .before .before .before .before .args .place)) (c .before .found .given .0 .1 .0) outcome →
-    Comes (now (c .before .before .before .before .before .args .file)) (wants wrongPlant anyAmount then) (c .before .before .before .before .before .args .place) (c .before .before .before .before .before .args .at) outcome
+    Comes (now (start-of-exported c .args .file)) (then (value-of-exported c)) (suc (start-of-exported c .args .place)) (after-exported c) outcome →
+    Comes (now (start-of-exported c .args .file)) (wants wrongPlant anyAmount then) (start-of-exported c .args .place) (start-of-exported c .args .at) outcome
 exported-read c later = goes (got (c .before .before .before .read-at .ensures) (c .before .found .given .1)) refl later
 
 -- then the first segment, which is allowed
+abbrev start-of-first : tie.Else1 → tie.Start
+start-of-first c = c .before .before .before .before .before .before .before .before .before .before .before
+
+abbrev value-of-first : tie.Else1 → ℕ
+value-of-first c = c .before .before .before .found2 .given .0 .0
+
+abbrev after-first : tie.Else1 → ℕ
+after-first c = c .before .before .before .found2 .given .0 .1 .0
+
 first-read :
     (c : tie.Else1) {then : ℕ → Reader Plant} {outcome : Read Plant} →
-    Comes (now (c .before .before .before .before .before .before .before .before .before .before .before .args .file)) (then (c .before .before .before .found2 .given .0 .0)) (suc (suc (c .before .before .before .before .before .before .before .before .before .before .before .args .place))) (c .before .before .before .found2 .given .0 .1 .0) outcome →
-    Comes (now (c .before .before .before .before .before .before .before .before .before .before .before .args .file)) (wants wrongPlant (firstAllowed (c .before .before .before .before .before .before .before .before .before .before .before .args .segments)) then) (suc (c .before .before .before .before .before .before .before .before .before .before .before .args .place)) (c .before .before .before .before .before .before .before .found .given .0 .1 .0) outcome
+    Comes (now (start-of-first c .args .file)) (then (value-of-first c)) (suc (suc (start-of-first c .args .place))) (after-first c) outcome →
+    Comes (now (start-of-first c .args .file)) (wants wrongPlant (firstAllowed (start-of-first c .args .segments)) then) (suc (start-of-first c .args .place)) (after-exported (c .before .before .before .before .before .before)) outcome
 first-read c later = goes (got (c .before .before .before .before .before .read-at2 .ensures) (c .before .before .before .found2 .given .1)) (sym (c .before .first-allowed .ensures) ∙ not-false (c .before .first-allowed .result) (c .if1 .left)) later
 
 -- then the origin fraction
+abbrev start-of-fraction : tie.Else2 → tie.Start
+start-of-fraction c = c .before .before .before .before .before .before .before .before .before .before .before .before .before .before .before .before .before
+
+abbrev value-of-fraction : tie.Else2 → ℕ
+value-of-fraction c = c .before .before .before .found3 .given .0 .0
+
+abbrev after-fraction : tie.Else2 → ℕ
+after-fraction c = c .before .before .before .found3 .given .0 .1 .0
+
 fraction-read :
     (c : tie.Else2) {then : ℕ → Reader Plant} {outcome : Read Plant} →
-    Comes (now (c .before .before .before .before .before .before .before .before .before .before .before .before .before .before .before .before .before .args .file)) (then (c .before .before .before .found3 .given .0 .0)) (suc (suc (suc (c .before .before .before .before .before .before .before .before .before .before .before .before .before .before .before .before .before .args .place)))) (c .before .before .before .found3 .given .0 .1 .0) outcome →
-    Comes (now (c .before .before .before .before .before .before .before .before .before .before .before .before .before .before .before .before .before .args .file)) (wants wrongPlant fractionAllowed then) (suc (suc (c .before .before .before .before .before .before .before .before .before .before .before .before .before .before .before .before .before .args .place))) (c .before .before .before .before .before .before .before .before .before .found2 .given .0 .1 .0) outcome
+    Comes (now (start-of-fraction c .args .file)) (then (value-of-fraction c)) (suc (suc (suc (start-of-fraction c .args .place)))) (after-fraction c) outcome →
+    Comes (now (start-of-fraction c .args .file)) (wants wrongPlant fractionAllowed then) (suc (suc (start-of-fraction c .args .place))) (after-first (c .before .before .before .before .before .before)) outcome
 fraction-read c later = goes (got (c .before .before .before .before .before .read-at3 .ensures) (c .before .before .before .found3 .given .1)) (sym (c .before .fraction-allowed .ensures) ∙ not-false (c .before .fraction-allowed .result) (c .if2 .left)) later
 
 read-at-requires : tie.Need-read-at-requires
@@ -113,12 +140,12 @@ returns-5 c =
 
 new-requires : tie.Need-new-requires
 new-requires c κs =
-    (bounds (now (c .before .before .before .before .before .before .before .before .before .before .before .before .before .before .before .before .before .args .file)) (c .before .before .before .before .before .before .before .before .before .before .before .before .before .before .before .before .before .args .at) (c .before .before .before .before .before .before .before .before .before .before .before .before .before .found .given .0 .0) (c .before .before .before .before .before .before .before .before .before .before .before .before .before .found .given .0 .1 .0) (got (c .before .before .before .before .before .before .before .before .before .before .before .before .before .before .before .read-at .ensures) (c .before .before .before .before .before .before .before .before .before .before .before .before .before .found .given .1)) .small, (let h = at-most 1 (c .before .before .before .before .before .before .before .before .before .before .before .before .before .before .before .before .before .args .segments) (c .before .before .before .before .before .before .before .before .before .found2 .given .0 .0) (sym (c .before .before .before .before .before .before .before .first-allowed .ensures) ∙ not-false (c .before .before .before .before .before .before .before .first-allowed .result) (c .before .before .before .before .before .before .if1 .left)) in omega arith), leb-true (c .before .before .before .found3 .given .0 .0) millionths (sym (c .before .fraction-allowed .ensures) ∙ not-false (c .before .fraction-allowed .result) (c .if2 .left)))
+    (bounds (now (start-of-fraction c .args .file)) (c .before .before .before .before .before .before .before .before .before .before .before .before .before .before .before .before .before .args .at) (value-of-exported (c .before .before .before .before .before .before .before .before .before .before .before .before)) (after-exported (c .before .before .before .before .before .before .before .before .before .before .before .before)) (got (c .before .before .before .before .before .before .before .before .before .before .before .before .before .before .before .read-at .ensures) (c .before .before .before .before .before .before .before .before .before .before .before .before .before .found .given .1)) .small, (let h = at-most 1 (c .before .before .before .before .before .before .before .before .before .before .before .before .before .before .before .before .before .args .segments) (value-of-first (c .before .before .before .before .before .before)) (sym (c .before .before .before .before .before .before .before .first-allowed .ensures) ∙ not-false (c .before .before .before .before .before .before .before .first-allowed .result) (c .before .before .before .before .before .before .if1 .left)) in omega arith), leb-true (value-of-fraction c) millionths (sym (c .before .fraction-allowed .ensures) ∙ not-false (c .before .fraction-allowed .result) (c .if2 .left)))
 
 returns-6 : tie.Need-returns-6
 unfolding plant
 returns-6 c =
-    comes (now (c .before .before .before .before .before .before .before .before .before .before .before .before .before .before .before .before .before .before .args .file)) (exported-read (c .before .before .before .before .before .before .before .before .before .before .before .before .before) (first-read (c .before .before .before .before .before .before .before) (fraction-read (c .before) done))) ∙ ap (λ (x : Plant). read x (suc (suc (suc (c .before .before .before .before .before .before .before .before .before .before .before .before .before .before .before .before .before .before .args .place)))) (run (drop (c .before .before .before .before .found3 .given .0 .1 .0) (now (c .before .before .before .before .before .before .before .before .before .before .before .before .before .before .before .before .before .before .args .file))))) (sym (c .new .ensures))
+    comes (now (c .before .before .before .before .before .before .before .before .before .before .before .before .before .before .before .before .before .before .args .file)) (exported-read (c .before .before .before .before .before .before .before .before .before .before .before .before .before) (first-read (c .before .before .before .before .before .before .before) (fraction-read (c .before) done))) ∙ ap (λ (x : Plant). read x (suc (suc (suc (c .before .before .before .before .before .before .before .before .before .before .before .before .before .before .before .before .before .before .args .place)))) (run (drop (after-fraction (c .before)) (now (c .before .before .before .before .before .before .before .before .before .before .before .before .before .before .before .before .before .before .args .file))))) (sym (c .new .ensures))
 
 pub read-plant-spec : {M : Type 1} → statement M
 read-plant-spec =

@@ -21,24 +21,51 @@ use Rattle.period.proofs.reading.segments.read_segment.Statement.{state
 use Rattle.period.proofs.reading.segments.read_segment.Tie as tie
 
 -- the kind is read and allowed
+abbrev start-of-kind : tie.Else1 → tie.Start
+start-of-kind c = c .before .before .before .before .before .before .before
+
+abbrev value-of-kind : tie.Else1 → ℕ
+value-of-kind c = c .before .before .before .found .given .0 .0
+
+abbrev after-kind : tie.Else1 → ℕ
+after-kind c = c .before .before .before .found .given .0 .1 .0
+
 kind-read :
     (c : tie.Else1) {then : ℕ → Reader Segment} {outcome : Read Segment} →
-    Comes (now (c .before .before .before .before .before .before .before .args .file)) (then (c .before .before .before .found .given .0 .0)) (suc (c .before .before .before .before .before .before .before .args .place)) (c .before .before .before .found .given .0 .1 .0) outcome →
-    Comes (now (c .before .before .before .before .before .before .before .args .file)) (wants wrongSegment kindAllowed then) (c .before .before .before .before .before .before .before .args .place) (c .before .before .before .before .before .before .before .args .at) outcome
+    Comes (now (start-of-kind c .args .file)) (then (value-of-kind c)) (suc (start-of-kind c .args .place)) (after-kind c) outcome →
+    Comes (now (start-of-kind c .args .file)) (wants wrongSegment kindAllowed then) (start-of-kind c .args .place) (start-of-kind c .args .at) outcome
 kind-read c later = goes (got (c .before .before .before .before .before .read-at .ensures) (c .before .before .before .found .given .1)) (sym (c .before .kind-allowed .ensures) ∙ not-false (c .before .kind-allowed .result) (c .if1 .left)) later
 
 -- then the outflow
+abbrev start-of-outflow : tie.After-known-told2 → tie.Start
+start-of-outflow c = c .before .before .before .before .before .before .before .before .before .before .before
+
+abbrev value-of-outflow : tie.After-known-told2 → ℕ
+value-of-outflow c = c .before .found2 .given .0 .0
+
+abbrev after-outflow : tie.After-known-told2 → ℕ
+after-outflow c = c .before .found2 .given .0 .1 .0
+
 outflow-read :
     (c : tie.After-known-told2) {then : ℕ → Reader Segment} {outcome : Read Segment} →
-    Comes (now (c .before .before .before .before .before .before .before .before .before .before .before .args .file)) (then (c .before .found2 .given .0 .0)) (suc (suc (c .before .before .before .before .before .before .before .before .before .before .before .args .place))) (c .before .found2 .given .0 .1 .0) outcome →
-    Comes (now (c .before .before .before .before .before .before .before .before .before .before .before .args .file)) (wants wrongSegment anyAmount then) (suc (c .before .before .before .before .before .before .before .before .before .before .before .args .place)) (c .before .before .before .before .before .before .before .found .given .0 .1 .0) outcome
+    Comes (now (start-of-outflow c .args .file)) (then (value-of-outflow c)) (suc (suc (start-of-outflow c .args .place))) (after-outflow c) outcome →
+    Comes (now (start-of-outflow c .args .file)) (wants wrongSegment anyAmount then) (suc (start-of-outflow c .args .place)) (after-kind (c .before .before .before .before)) outcome
 outflow-read c later = goes (got (c .before .before .before .read-at2 .ensures) (c .before .found2 .given .1)) refl later
 
 -- then the next segment, which is allowed
+abbrev start-of-next : tie.Else2 → tie.Start
+start-of-next c = c .before .before .before .before .before .before .before .before .before .before .before .before .before .before .before .before .before
+
+abbrev value-of-next : tie.Else2 → ℕ
+value-of-next c = c .before .before .before .found3 .given .0 .0
+
+abbrev after-next : tie.Else2 → ℕ
+after-next c = c .before .before .before .found3 .given .0 .1 .0
+
 next-read :
     (c : tie.Else2) {then : ℕ → Reader Segment} {outcome : Read Segment} →
-    Comes (now (c .before .before .before .before .before .before .before .before .before .before .before .before .before .before .before .before .before .args .file)) (then (c .before .before .before .found3 .given .0 .0)) (suc (suc (suc (c .before .before .before .before .before .before .before .before .before .before .before .before .before .before .before .before .before .args .place)))) (c .before .before .before .found3 .given .0 .1 .0) outcome →
-    Comes (now (c .before .before .before .before .before .before .before .before .before .before .before .before .before .before .before .before .before .args .file)) (wants wrongSegment (nextAllowed (c .before .before .before .before .before .before .before .before .before .before .before .before .before .before .before .before .before .args .segments) (c .before .before .before .before .before .before .before .before .before .before .before .before .before .before .before .before .before .args .own) (c .before .before .before .before .before .before .before .before .before .before .before .before .before .found .given .0 .0)) then) (suc (suc (c .before .before .before .before .before .before .before .before .before .before .before .before .before .before .before .before .before .args .place))) (c .before .before .before .before .before .before .before .found2 .given .0 .1 .0) outcome
+    Comes (now (start-of-next c .args .file)) (then (value-of-next c)) (suc (suc (suc (start-of-next c .args .place)))) (after-next c) outcome →
+    Comes (now (start-of-next c .args .file)) (wants wrongSegment (nextAllowed (start-of-next c .args .segments) (start-of-next c .args .own) (value-of-kind (c .before .before .before .before .before .before .before .before .before .before))) then) (suc (suc (start-of-next c .args .place))) (after-outflow (c .before .before .before .before .before .before)) outcome
 next-read c later = goes (got (c .before .before .before .before .before .read-at3 .ensures) (c .before .before .before .found3 .given .1)) (sym (c .before .next-allowed .ensures) ∙ not-false (c .before .next-allowed .result) (c .if2 .left)) later
 
 read-at-requires : tie.Need-read-at-requires
@@ -110,12 +137,12 @@ returns-5 c =
 
 new-requires : tie.Need-new-requires
 new-requires c κs =
-    (at-most pipeline store (c .before .before .before .before .before .before .before .before .before .before .before .before .before .found .given .0 .0) (sym (c .before .before .before .before .before .before .before .before .before .before .before .kind-allowed .ensures) ∙ not-false (c .before .before .before .before .before .before .before .before .before .before .before .kind-allowed .result) (c .before .before .before .before .before .before .before .before .before .before .if1 .left)), bounds (now (c .before .before .before .before .before .before .before .before .before .before .before .before .before .before .before .before .before .args .file)) (c .before .before .before .before .before .before .before .before .before .before .before .before .before .found .given .0 .1 .0) (c .before .before .before .before .before .before .before .found2 .given .0 .0) (c .before .before .before .before .before .before .before .found2 .given .0 .1 .0) (got (c .before .before .before .before .before .before .before .before .before .read-at2 .ensures) (c .before .before .before .before .before .before .before .found2 .given .1)) .small, (let h = next-at-most (c .before .before .before .before .before .before .before .before .before .before .before .before .before .before .before .before .before .args .segments) (c .before .before .before .before .before .before .before .before .before .before .before .before .before .before .before .before .before .args .own) (c .before .before .before .before .before .before .before .before .before .before .before .before .before .found .given .0 .0) (c .before .before .before .found3 .given .0 .0) (sym (c .before .next-allowed .ensures) ∙ not-false (c .before .next-allowed .result) (c .if2 .left)) in omega arith))
+    (at-most pipeline store (value-of-kind (c .before .before .before .before .before .before .before .before .before .before)) (sym (c .before .before .before .before .before .before .before .before .before .before .before .kind-allowed .ensures) ∙ not-false (c .before .before .before .before .before .before .before .before .before .before .before .kind-allowed .result) (c .before .before .before .before .before .before .before .before .before .before .if1 .left)), bounds (now (start-of-next c .args .file)) (after-kind (c .before .before .before .before .before .before .before .before .before .before)) (value-of-outflow (c .before .before .before .before .before .before)) (after-outflow (c .before .before .before .before .before .before)) (got (c .before .before .before .before .before .before .before .before .before .read-at2 .ensures) (c .before .before .before .before .before .before .before .found2 .given .1)) .small, (let h = next-at-most (c .before .before .before .before .before .before .before .before .before .before .before .before .before .before .before .before .before .args .segments) (c .before .before .before .before .before .before .before .before .before .before .before .before .before .before .before .before .before .args .own) (value-of-kind (c .before .before .before .before .before .before .before .before .before .before)) (value-of-next c) (sym (c .before .next-allowed .ensures) ∙ not-false (c .before .next-allowed .result) (c .if2 .left)) in omega arith))
 
 returns-6 : tie.Need-returns-6
 unfolding segment
 returns-6 c =
-    comes (now (c .before .before .before .before .before .before .before .before .before .before .before .before .before .before .before .before .before .before .args .file)) (kind-read (c .before .before .before .before .before .before .before .before .before .before .before) (outflow-read (c .before .before .before .before .before .before .before) (next-read (c .before) done))) ∙ ap (λ (x : Segment). read x (suc (suc (suc (c .before .before .before .before .before .before .before .before .before .before .before .before .before .before .before .before .before .before .args .place)))) (run (drop (c .before .before .before .before .found3 .given .0 .1 .0) (now (c .before .before .before .before .before .before .before .before .before .before .before .before .before .before .before .before .before .before .args .file))))) (sym (c .new .ensures))
+    comes (now (c .before .before .before .before .before .before .before .before .before .before .before .before .before .before .before .before .before .before .args .file)) (kind-read (c .before .before .before .before .before .before .before .before .before .before .before) (outflow-read (c .before .before .before .before .before .before .before) (next-read (c .before) done))) ∙ ap (λ (x : Segment). read x (suc (suc (suc (c .before .before .before .before .before .before .before .before .before .before .before .before .before .before .before .before .before .before .args .place)))) (run (drop (after-next (c .before)) (now (c .before .before .before .before .before .before .before .before .before .before .before .before .before .before .before .before .before .before .args .file))))) (sym (c .new .ensures))
 
 pub read-segment-spec : {M : Type 1} → statement M
 read-segment-spec =

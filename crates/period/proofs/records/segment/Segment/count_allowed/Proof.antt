@@ -1,13 +1,17 @@
 -- `period::records::segment::Segment::count_allowed` meets its contract: the two ends are tested one after the other. Assumes nothing.
-use borrow.Author.Tests.{le-leb, lt-leb}
+use mathlib.Core.Path.{sym, _∙_}
+use native.Mathlib.Omega.{arith}
+use borrow.Author.Tests.{lt-leb}
+use Rattle.period.specs.Segments.{mostSegments}
+use Rattle.period.proofs.Ranges.{from-low, below-range}
 use Rattle.period.proofs.records.segment.Segment.count_allowed.Statement.{statement}
 use Rattle.period.proofs.records.segment.Segment.count_allowed.Tie as tie
 
 returns : tie.Need-returns
-returns c = simp (le-leb _ _ (c .if1 .taken))
+returns c = sym (from-low 1 mostSegments (c .before .args .count) (omega arith))
 
 returns-2 : tie.Need-returns-2
-returns-2 c = simp (lt-leb _ _ (c .if1 .left))
+returns-2 c = lt-leb 1 (c .before .args .count) (omega arith) ∙ sym (below-range 1 mostSegments (c .before .args .count) (omega arith))
 
 pub count-allowed-spec : {M : Type 1} → statement M
 count-allowed-spec = tie.close (tie.spec returns returns-2)

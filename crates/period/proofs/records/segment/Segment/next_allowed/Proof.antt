@@ -11,7 +11,7 @@ returns : tie.Need-returns
 returns c = let a = c .before .args in sym (next-none (a .segments) (a .own) (a .kind) (a .next) (c .match .keys1))
 
 returns-2 : tie.Need-returns-2
-returns-2 c = let a = c .before .before .before .before .args in sym (next-after (a .segments) (a .own) (a .kind) (a .next) (omega arith) (omega arith) ∙ from-low (suc (a .own)) (a .segments) (a .next) (c .if3 .taken))
+returns-2 c = let a = c .before .before .before .before .args in sym (next-after (a .segments) (a .own) (a .kind) (a .next) (omega arith) (omega arith) ∙ from-low (suc (a .own)) (a .segments) (a .next) (omega arith))
 
 returns-3 : tie.Need-returns-3
 returns-3 c = let a = c .before .before .before .before .args in le-ltb (a .own) (a .next) (c .if3 .left) ∙ sym (next-after (a .segments) (a .own) (a .kind) (a .next) (omega arith) (omega arith) ∙ below-range (suc (a .own)) (a .segments) (a .next) (omega arith))
