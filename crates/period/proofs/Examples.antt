@@ -13,8 +13,8 @@ use Rattle.period.specs.Emissions.{gramsOf, emission}
 use Rattle.period.specs.Walk.{sum, creditsFrom, passed, turns, arrived}
 use Rattle.period.specs.Accounts.{setOf, account}
 use Rattle.period.specs.Rows.{plantRows, segmentRows}
-use Rattle.period.specs.Quantified.{tested, lineTests, segmentTests, accountsOf, rows, judged, quantified}
-use Rattle.period.specs.Quantified.Answer.{refusal, accepted}
+use Rattle.period.specs.Order.{refusal, accepted, tested, lineTests, segmentTests}
+use Rattle.period.specs.Quantified.{accountsOf, rows, judged, quantified}
 
 -- The numbers of 01's whole period, but for those that the cases change: the exports, the outflows, the second kind, and the first line's
 -- quantity and factor.

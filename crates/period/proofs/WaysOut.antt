@@ -12,15 +12,15 @@ use Rattle.period.specs.declared.reading.segments.Segments.{Segments}
 use Rattle.period.specs.declared.records.line.Line.{Line}
 use Rattle.period.specs.declared.records.plant.Plant.{Plant}
 use Rattle.period.specs.declared.records.segment.Segment.{Segment}
-use Rattle.period.specs.Plants.{mostPlants, plantFields, noPlant}
-use Rattle.period.specs.Segments.{mostSegments, segmentFields, noSegment}
-use Rattle.period.specs.Lines.{mostLines, lineFields, noLine}
+use Rattle.period.specs.Plants.{plantFields}
+use Rattle.period.specs.Segments.{segmentFields}
+use Rattle.period.specs.Lines.{lineFields}
 use Rattle.period.specs.Run.{Run, run}
 use Rattle.period.specs.Fields.{Reader, return, _>>=_, each, Read, read, reads}
 use Rattle.period.specs.Periods.{Period, Header, headerNumbers, plant, segment, line, records, ended}
 use Rattle.period.specs.Answers.{said}
 use Rattle.period.specs.Held.{Held}
-use Rattle.period.specs.Inside.{Staged, announced, nothing}
+use Rattle.period.specs.Inside.{announced, plantsRead, segmentsRead, linesRead, nothing}
 use Rattle.period.proofs.answer.Answer.{the-type}
 use Rattle.period.proofs.Whole.{refusals, stage-refuses, stage-read, accepted, after-read, after-refused, refused-then-ended, more-left, none-left, refused-held}
 
@@ -57,7 +57,7 @@ module _ (file : List ℕ) (start plants segments lines : ℕ) where
   -- the plants are worked
   module _
       (one : Plants)
-      (staged-one : Staged noPlant mostPlants plants (reads (plantsOf heading) headerNumbers left) (said (one .answer)) (one .plants) (headerNumbers + plantFields * plants) (run (drop (one .next) file))) where
+      (staged-one : plantsRead file start plants segments one) where
     pub plants-refused : OneOf refusals (tagOf the-type (one .answer)) → Held (nothing (one .answer)) outcome
     unfolding records
     plants-refused tag =
@@ -68,7 +68,7 @@ module _ (file : List ℕ) (start plants segments lines : ℕ) where
     -- and accepted, and then the segments
     module _
         (accepted-one : OneOf (0 ∷ []) (tagOf the-type (one .answer))) (two : Segments)
-        (staged-two : Staged noSegment mostSegments segments (reads (segmentsOf heading) (headerNumbers + plantFields * plants) (run (drop (one .next) file))) (said (two .answer)) (two .segments) (headerNumbers + plantFields * plants + segmentFields * segments) (run (drop (two .next) file))) where
+        (staged-two : segmentsRead file (one .next) (headerNumbers + plantFields * plants) segments two) where
       abbrev all-plants : List Plant
       all-plants = take plants (one .plants)
 
@@ -92,7 +92,7 @@ module _ (file : List ℕ) (start plants segments lines : ℕ) where
       -- and accepted, and then the lines
       module _
           (accepted-two : OneOf (0 ∷ []) (tagOf the-type (two .answer))) (three : Lines)
-          (staged-three : Staged noLine mostLines lines (reads (linesOf heading) (headerNumbers + plantFields * plants + segmentFields * segments) (run (drop (two .next) file))) (said (three .answer)) (three .lines) (headerNumbers + plantFields * plants + segmentFields * segments + lineFields * lines) (run (drop (three .next) file))) where
+          (staged-three : linesRead file (two .next) (headerNumbers + plantFields * plants + segmentFields * segments) lines plants segments three) where
         abbrev all-segments : List Segment
         all-segments = take segments (two .segments)
 

@@ -7,7 +7,7 @@ use Rattle.period.specs.declared.records.line.Line.{Line}
 
 -- "The total may be at most 4,000,000,000,000 g."
 abbrev pub mostGrams : ℕ
-mostGrams = 4000000000000
+mostGrams = 4_000_000_000_000
 
 -- n / d rounded up; 0 where d is 0, as the library's n / 0 is
 abbrev pub roundedUp : ℕ → ℕ → ℕ

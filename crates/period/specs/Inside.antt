@@ -1,5 +1,5 @@
 -- What the private functions of reading promise to their one caller. Nothing here is needed to read a public promise.
-use Prim.Native.Nat.{ℕ, suc, _≤_}
+use Prim.Native.Nat.{ℕ, suc, _+_, _*_, _≤_}
 use mathlib.Core.Path.{_≡_}
 use mathlib.Core.List.{List}
 use lib.ListN.{length, take, drop, replicate}
@@ -13,14 +13,17 @@ use Rattle.period.specs.declared.reading.segments.ReadSegment.{ReadSegme
 use Rattle.period.specs.declared.reading.segments.ReadSegment.the-variants as ReadSegment
 use Rattle.period.specs.declared.reading.lines.ReadLine.{ReadLine}
 use Rattle.period.specs.declared.reading.lines.ReadLine.the-variants as ReadLine
+use Rattle.period.specs.declared.reading.plants.Plants.{Plants}
+use Rattle.period.specs.declared.reading.segments.Segments.{Segments}
+use Rattle.period.specs.declared.reading.lines.Lines.{Lines}
 use Rattle.period.specs.declared.records.plant.Plant.{Plant}
 use Rattle.period.specs.declared.records.segment.Segment.{Segment}
 use Rattle.period.specs.declared.records.line.Line.{Line}
-use Rattle.period.specs.Plants.{mostPlants, noPlant}
-use Rattle.period.specs.Segments.{mostSegments, noSegment}
-use Rattle.period.specs.Lines.{mostLines, noLine}
+use Rattle.period.specs.Plants.{mostPlants, plantFields, noPlant}
+use Rattle.period.specs.Segments.{mostSegments, segmentFields, noSegment}
+use Rattle.period.specs.Lines.{mostLines, lineFields, noLine}
 use Rattle.period.specs.Run.{Run, run}
-use Rattle.period.specs.Fields.{Read, read, refused}
+use Rattle.period.specs.Fields.{each, Read, read, refused, reads}
 use Rattle.period.specs.Periods as Periods
 use Rattle.period.specs.Answers.{Verdict, accepts, refuses, said}
 use Rattle.period.specs.Held.{filled}
@@ -67,6 +70,22 @@ module _ {A : Type 0} where
     pub comes-to : outcome ≡ staged verdict (take count array) place rest
     pub counted : verdict ≡ accepts → length (take count array) ≡ count
     pub filled-up : verdict ≡ accepts → array ≡ filled none room (take count array)
+
+-- what reading the records of each kind comes to, the first of which starts at a byte, with what the stage hands on
+abbrev pub plantsRead : List ℕ → (start count segments : ℕ) → Plants → Type 0
+plantsRead file start count segments r =
+    Staged noPlant mostPlants count (reads (each (λ (own : ℕ). Periods.plant segments) 1 count) Periods.headerNumbers (run (drop start file)))
+    (said (r .answer)) (r .plants) (Periods.headerNumbers + plantFields * count) (run (drop (r .next) file))
+
+abbrev pub segmentsRead : List ℕ → (start place count : ℕ) → Segments → Type 0
+segmentsRead file start place count r =
+    Staged noSegment mostSegments count (reads (each (Periods.segment count) 1 count) place (run (drop start file)))
+    (said (r .answer)) (r .segments) (place + segmentFields * count) (run (drop (r .next) file))
+
+abbrev pub linesRead : List ℕ → (start place count plants segments : ℕ) → Lines → Type 0
+linesRead file start place count plants segments r =
+    Staged noLine mostLines count (reads (each (λ (own : ℕ). Periods.line plants segments) 1 count) place (run (drop start file)))
+    (said (r .answer)) (r .lines) (place + lineFields * count) (run (drop (r .next) file))
 
 -- ---- the reading of a refused file
 abbrev pub nothing : Answer → Reading

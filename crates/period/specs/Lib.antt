@@ -17,6 +17,7 @@ pub mod Walk
 pub mod Accounts
 pub mod Rows
 -- the answer to a file
+pub mod Order
 pub mod Quantified
 -- the code's answers in these terms
 pub mod Limits

@@ -1,4 +1,4 @@
--- "L line records: owner kind; owner number; class; quantity; factor in grams CO2e per unit."
+-- "L line records: owner kind ..; owner number ..; class ..; quantity; factor in grams CO2e per unit".
 use Prim.Native.Nat.{ℕ}
 use mathlib.Core.Bool.{Bool, _&&_, _||_}
 use lib.Dec.{eqb}
@@ -15,7 +15,7 @@ linesAllowed = upTo mostLines
 
 -- "factor in grams CO2e per unit (0 to 1,000,000,000)"
 abbrev pub largestFactor : ℕ
-largestFactor = 1000000000
+largestFactor = 1_000_000_000
 
 -- "owner kind (0 plant, 1 segment)"
 abbrev pub ownerKindAllowed : ℕ → Bool

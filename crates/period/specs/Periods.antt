@@ -61,7 +61,7 @@ segment segments own = do
   next ← field wrongSegment (nextAllowed segments own kind)
   return (segmentOf kind outflow next)
 
--- "owner kind; owner number; class; quantity; factor"
+-- "owner kind ..; owner number ..; class ..; quantity; factor"
 unfoldable pub line : ℕ → ℕ → Reader Line
 line plants segments = do
   ownerKind ← field wrongLine ownerKindAllowed
@@ -79,7 +79,7 @@ records h = do
   lines ← each (λ (own : ℕ). line (h .plants) (h .segments)) 1 (h .lines)
   return (record { plants = plants; segments = segments; lines = lines })
 
--- The header and its records.
+-- The numbers of the file, from the first to the last.
 unfoldable pub period : Reader Period
 period = do
   h ← header
@@ -92,6 +92,6 @@ ended (read what place (fault k)) = refused bytesAfter place
 ended (read what place (number value rest)) = refused bytesAfter place
 ended (refused refusal place) = refused refusal place
 
--- The whole file, from its first number on.
+-- The whole file.
 unfoldable pub periodFile : List ℕ → Read Period
 periodFile file = ended (reads period 0 (run file))

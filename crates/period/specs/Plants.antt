@@ -13,7 +13,7 @@ plantsAllowed = within 1 mostPlants
 
 -- "in millionths": the whole
 abbrev pub millionths : ℕ
-millionths = 1000000
+millionths = 1_000_000
 
 -- "first segment (1 to S)"
 abbrev pub firstAllowed : ℕ → ℕ → Bool

@@ -16,7 +16,7 @@ abbrev pub starting : Answer → (ℕ → Run) → Run
 starting (oneFault k) rest = fault k
 starting (oneNumber value next) rest = number value (rest next)
 
--- The run of some bytes, which have at most `most` numbers.
+-- The run of some bytes, of which at most so many numbers are taken.
 unfoldable pub runOf : ℕ → List ℕ → Run
 runOf zero bytes = over
 runOf (suc most) [] = over

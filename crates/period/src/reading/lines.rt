@@ -1,15 +1,13 @@
 // The emission lines of a file: "owner kind; owner number; class; quantity; factor".
-ghost use mathlib.Core.Path.{_≡_};
-ghost use Prim.Native.Nat.{ℕ, _+_, _*_, _≤_};
+ghost use Prim.Native.Nat.{_+_, _*_, _≤_};
 ghost use lib.ListN.{drop};
 ghost use Rattle.period.specs.Plants.{mostPlants, plantFields};
 ghost use Rattle.period.specs.Segments.{mostSegments, segmentFields};
-ghost use Rattle.period.specs.Lines.{mostLines, noLine, lineFields};
+ghost use Rattle.period.specs.Lines.{mostLines};
 ghost use Rattle.period.specs.Run.{run};
-ghost use Rattle.period.specs.Fields.{each, reads};
+ghost use Rattle.period.specs.Fields.{reads};
 ghost use Rattle.period.specs.Periods.{line, headerNumbers, mostNumbers};
-ghost use Rattle.period.specs.Answers.{said};
-ghost use Rattle.period.specs.Inside.{lineRead, Staged};
+ghost use Rattle.period.specs.Inside.{lineRead, linesRead};
 use crate::answer::Answer;
 use crate::records::class::Class;
 use crate::records::line::Line;
@@ -124,7 +122,7 @@ pub(crate) fn read_lines(
     requires { ⌜ count ≤ mostLines ⌝ }
     requires { ⌜ plants ≤ mostPlants ⌝ }
     requires { ⌜ segments ≤ mostSegments ⌝ }
-    ensures { λ r. ⌜ Staged noLine mostLines count (reads (each (λ (own : ℕ). line plants segments) 1 count) «start_place» (run (drop start (now (file .entry))))) (said (r .answer)) (r .lines) («start_place» + lineFields * count) (run (drop (r .next) (now (file .entry)))) ⌝ }
+    ensures { λ r. ⌜ linesRead (now (file .entry)) start «start_place» count plants segments r ⌝ }
 {
     let mut lines = [Line::new(0, 0, 0, 0, 0); Line::MOST];
     let mut at = start;

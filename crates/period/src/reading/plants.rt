@@ -1,14 +1,12 @@
 // The plants of a file: "exported kg; first segment (1 to S); origin fraction in millionths (0 to 1,000,000)".
-ghost use mathlib.Core.Path.{_≡_};
-ghost use Prim.Native.Nat.{ℕ, _+_, _*_, _≤_};
+ghost use Prim.Native.Nat.{_≤_};
 ghost use lib.ListN.{drop};
-ghost use Rattle.period.specs.Plants.{mostPlants, noPlant, plantFields};
+ghost use Rattle.period.specs.Plants.{mostPlants};
 ghost use Rattle.period.specs.Segments.{mostSegments};
 ghost use Rattle.period.specs.Run.{run};
-ghost use Rattle.period.specs.Fields.{each, reads};
-ghost use Rattle.period.specs.Periods.{plant, headerNumbers, mostNumbers};
-ghost use Rattle.period.specs.Answers.{said};
-ghost use Rattle.period.specs.Inside.{plantRead, Staged};
+ghost use Rattle.period.specs.Fields.{reads};
+ghost use Rattle.period.specs.Periods.{plant, mostNumbers};
+ghost use Rattle.period.specs.Inside.{plantRead, plantsRead};
 use crate::answer::Answer;
 use crate::reading::header::Header;
 use crate::records::plant::Plant;
@@ -83,7 +81,7 @@ pub(crate) struct Plants {
 pub(crate) fn read_plants(file: &[u8], start: usize, count: usize, segments: u64) -> Plants
     requires { ⌜ count ≤ mostPlants ⌝ }
     requires { ⌜ segments ≤ mostSegments ⌝ }
-    ensures { λ r. ⌜ Staged noPlant mostPlants count (reads (each (λ (own : ℕ). plant segments) 1 count) headerNumbers (run (drop start (now (file .entry))))) (said (r .answer)) (r .plants) (headerNumbers + plantFields * count) (run (drop (r .next) (now (file .entry)))) ⌝ }
+    ensures { λ r. ⌜ plantsRead (now (file .entry)) start count segments r ⌝ }
 {
     let mut plants = [Plant::new(0, 0, 0); Plant::MOST];
     let mut at = start;

@@ -1,14 +1,12 @@
 // The segments of a file: "kind; metered outflow in kg; next segment".
-ghost use mathlib.Core.Path.{_≡_};
 ghost use Prim.Native.Nat.{_+_, _*_, _≤_};
 ghost use lib.ListN.{drop};
 ghost use Rattle.period.specs.Plants.{mostPlants, plantFields};
-ghost use Rattle.period.specs.Segments.{mostSegments, noSegment, segmentFields};
+ghost use Rattle.period.specs.Segments.{mostSegments};
 ghost use Rattle.period.specs.Run.{run};
-ghost use Rattle.period.specs.Fields.{each, reads};
+ghost use Rattle.period.specs.Fields.{reads};
 ghost use Rattle.period.specs.Periods.{segment, headerNumbers, mostNumbers};
-ghost use Rattle.period.specs.Answers.{said};
-ghost use Rattle.period.specs.Inside.{segmentRead, Staged};
+ghost use Rattle.period.specs.Inside.{segmentRead, segmentsRead};
 use crate::answer::Answer;
 use crate::records::segment::Segment;
 use number::Number;
@@ -89,7 +87,7 @@ pub(crate) struct Segments {
 pub(crate) fn read_segments(file: &[u8], start: usize, start_place: u64, count: usize) -> Segments
     requires { ⌜ «start_place» ≤ headerNumbers + plantFields * mostPlants ⌝ }
     requires { ⌜ count ≤ mostSegments ⌝ }
-    ensures { λ r. ⌜ Staged noSegment mostSegments count (reads (each (segment count) 1 count) «start_place» (run (drop start (now (file .entry))))) (said (r .answer)) (r .segments) («start_place» + segmentFields * count) (run (drop (r .next) (now (file .entry)))) ⌝ }
+    ensures { λ r. ⌜ segmentsRead (now (file .entry)) start «start_place» count r ⌝ }
 {
     let mut segments = [Segment::new(0, 0, 0); Segment::MOST];
     let mut at = start;

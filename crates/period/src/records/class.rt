@@ -14,12 +14,12 @@ pub struct Class {
 }
 
 impl Class {
-    // The first code, that of the table's first row, and the last.
-    pub const FIRST: u64 = 1;
-
-    pub const LAST: u64 = 8;
     // The rows of the table.
     pub const ROWS: usize = 8;
+    // The codes of its first row and its last.
+    pub const FIRST: u64 = 1;
+
+    pub const LAST: u64 = Class::ROWS as u64;
 
     // Whether the table allows a class to an owner.
     pub(crate) fn allowed(code: u64, owner_kind: u64) -> bool

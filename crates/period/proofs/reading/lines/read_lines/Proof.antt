@@ -14,7 +14,7 @@ use Rattle.period.proofs.reading.lines.read_lines.Statement.{statement}
 use Rattle.period.proofs.reading.lines.read_lines.Tie as tie
 
 abbrev Inv-loop : tie.InvT-loop
-Inv-loop file start start-place count plants segments lines₀ at₀ place₀ l₀ lines at place l = Going (λ (own : ℕ). line plants segments) noLine mostLines lineFields (file) start start-place count lines at place l
+Inv-loop file start start-place count plants segments lines₀ at₀ place₀ l₀ lines at place l = Going (λ (own : ℕ). line plants segments) noLine mostLines lineFields file start start-place count lines at place l
 
 abbrev μ-loop : tie.MeasureT-loop
 μ-loop file start start-place count plants segments lines₀ at₀ place₀ l₀ lines at place l = count - l
@@ -30,7 +30,6 @@ loop-holds c =
 
 read-line-requires : tie.Need-read-line-requires Inv-loop μ-loop
 read-line-requires c κs =
-    let a = c .before .before .before .before .args in
     let l = c .before .loop in
     omega (arith, l .inv .place-is, l .inv .within)
 
@@ -39,7 +38,7 @@ enum-known-answer c = search needs
 
 returns : tie.Need-returns Inv-loop μ-loop
 returns c =
-    going-refused (c .before .before .before .before .before .loop .inv) (c .before .before .before .before .loop-test .taken) (said (c .before .answer .given .0 .0)) _ _ (rw (c .before .answer .given .1) at (c .before .before .before .read-line .ensures))
+    going-refused (c .before .before .before .before .before .loop .inv) (omega arith) (said (c .before .answer .given .0 .0)) _ _ (rw (c .before .answer .given .1) at (c .before .before .before .read-line .ensures))
 
 enum-known-line : tie.Need-enum-known-line Inv-loop μ-loop
 enum-known-line c = search needs
@@ -61,9 +60,8 @@ loop-less c = omega arith
 
 loop-again : tie.Need-loop-again Inv-loop μ-loop
 loop-again c =
-    let a = c .before .before .before .before .before .before .before .before .args in
     let l = c .before .before .before .before .before .loop in
-    going-on (l .inv) (c .before .before .before .before .loop-test .taken) (omega arith) (c .before .line .given .0 .0) (suc (suc (suc (suc (suc (l .place)))))) (c .before .line .given .0 .1 .0) (omega arith)
+    going-on (l .inv) (omega arith) (omega arith) (c .before .line .given .0 .0) (suc (suc (suc (suc (suc (l .place)))))) (c .before .line .given .0 .1 .0) (omega arith)
     (rw (c .before .line .given .1) at (c .before .before .before .read-line .ensures))
 
 returns-2 : tie.Need-returns-2 Inv-loop μ-loop

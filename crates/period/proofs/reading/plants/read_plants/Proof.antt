@@ -14,7 +14,7 @@ use Rattle.period.proofs.reading.plants.read_plants.Statement.{statemen
 use Rattle.period.proofs.reading.plants.read_plants.Tie as tie
 
 abbrev Inv-loop : tie.InvT-loop
-Inv-loop file start count segments plants₀ at₀ place₀ p₀ plants at place p = Going (λ (own : ℕ). plant segments) noPlant mostPlants plantFields (file) start headerNumbers count plants at place p
+Inv-loop file start count segments plants₀ at₀ place₀ p₀ plants at place p = Going (λ (own : ℕ). plant segments) noPlant mostPlants plantFields file start headerNumbers count plants at place p
 
 abbrev μ-loop : tie.MeasureT-loop
 μ-loop file start count segments plants₀ at₀ place₀ p₀ plants at place p = count - p
@@ -30,7 +30,6 @@ loop-holds c =
 
 read-plant-requires : tie.Need-read-plant-requires Inv-loop μ-loop
 read-plant-requires c κs =
-    let a = c .before .before .before .before .args in
     let l = c .before .loop in
     omega (arith, l .inv .place-is, l .inv .within)
 
@@ -39,7 +38,7 @@ enum-known-answer c = search needs
 
 returns : tie.Need-returns Inv-loop μ-loop
 returns c =
-    going-refused (c .before .before .before .before .before .loop .inv) (c .before .before .before .before .loop-test .taken) (said (c .before .answer .given .0 .0)) _ _ (rw (c .before .answer .given .1) at (c .before .before .before .read-plant .ensures))
+    going-refused (c .before .before .before .before .before .loop .inv) (omega arith) (said (c .before .answer .given .0 .0)) _ _ (rw (c .before .answer .given .1) at (c .before .before .before .read-plant .ensures))
 
 enum-known-plant : tie.Need-enum-known-plant Inv-loop μ-loop
 enum-known-plant c = search needs
@@ -61,9 +60,8 @@ loop-less c = omega arith
 
 loop-again : tie.Need-loop-again Inv-loop μ-loop
 loop-again c =
-    let a = c .before .before .before .before .before .before .before .before .args in
     let l = c .before .before .before .before .before .loop in
-    going-on (l .inv) (c .before .before .before .before .loop-test .taken) (omega arith) (c .before .plant .given .0 .0) (suc (suc (suc (l .place)))) (c .before .plant .given .0 .1 .0) (omega arith)
+    going-on (l .inv) (omega arith) (omega arith) (c .before .plant .given .0 .0) (suc (suc (suc (l .place)))) (c .before .plant .given .0 .1 .0) (omega arith)
     (rw (c .before .plant .given .1) at (c .before .before .before .read-plant .ensures))
 
 returns-2 : tie.Need-returns-2 Inv-loop μ-loop

@@ -15,7 +15,7 @@ use Rattle.period.proofs.reading.segments.read_segments.Statement.{stat
 use Rattle.period.proofs.reading.segments.read_segments.Tie as tie
 
 abbrev Inv-loop : tie.InvT-loop
-Inv-loop file start start-place count segments₀ at₀ place₀ s₀ segments at place s = Going (segment count) noSegment mostSegments segmentFields (file) start start-place count segments at place s
+Inv-loop file start start-place count segments₀ at₀ place₀ s₀ segments at place s = Going (segment count) noSegment mostSegments segmentFields file start start-place count segments at place s
 
 abbrev μ-loop : tie.MeasureT-loop
 μ-loop file start start-place count segments₀ at₀ place₀ s₀ segments at place s = count - s
@@ -34,7 +34,6 @@ add-read-segment c = let l = c .before .loop in omega (arith, l .inv .place-is, 
 
 read-segment-requires : tie.Need-read-segment-requires Inv-loop μ-loop
 read-segment-requires c κs =
-    let a = c .before .before .before .before .args in
     let l = c .before .loop in
     omega (arith, l .inv .place-is, l .inv .within)
 
@@ -43,7 +42,7 @@ enum-known-answer c = search needs
 
 returns : tie.Need-returns Inv-loop μ-loop
 returns c =
-    going-refused (c .before .before .before .before .before .loop .inv) (c .before .before .before .before .loop-test .taken) (said (c .before .answer .given .0 .0)) _ _ (rw (c .before .answer .given .1, add-one) at (c .before .before .before .read-segment .ensures))
+    going-refused (c .before .before .before .before .before .loop .inv) (omega arith) (said (c .before .answer .given .0 .0)) _ _ (rw (c .before .answer .given .1, add-one) at (c .before .before .before .read-segment .ensures))
 
 enum-known-segment : tie.Need-enum-known-segment Inv-loop μ-loop
 enum-known-segment c = search needs
@@ -65,9 +64,8 @@ loop-less c = omega arith
 
 loop-again : tie.Need-loop-again Inv-loop μ-loop
 loop-again c =
-    let a = c .before .before .before .before .before .before .before .before .args in
     let l = c .before .before .before .before .before .loop in
-    going-on (l .inv) (c .before .before .before .before .loop-test .taken) (omega arith) (c .before .segment .given .0 .0) (suc (suc (suc (l .place)))) (c .before .segment .given .0 .1 .0) (omega arith)
+    going-on (l .inv) (omega arith) (omega arith) (c .before .segment .given .0 .0) (suc (suc (suc (l .place)))) (c .before .segment .given .0 .1 .0) (omega arith)
     (rw (c .before .segment .given .1, add-one) at (c .before .before .before .read-segment .ensures))
 
 returns-2 : tie.Need-returns-2 Inv-loop μ-loop
