@@ -8,7 +8,8 @@ mod Fields
 mod Stages
 mod Whole
 mod WaysOut
--- No two outcomes meet a promise.
+-- No two outcomes meet a promise; what reading refuses is refused.
 pub mod Outcome
+pub mod Refused
 -- The whole period of 01 and its proved cases.
 pub mod Examples

@@ -12,10 +12,11 @@ plantOwner = 0
 abbrev pub segmentOwner : ℕ
 segmentOwner = 1
 
--- A row with its code, its equations from the first to the last, and the owners that it allows.
+-- A row: code, first and last equation, whether a plant and whether a segment may have the class.
 abbrev row : (code first last : ℕ) (plant segment : Bool) → Class
 row code first last plant segment = record { code = code; equation = first; «last_equation» = last; plant = plant; segment = segment }
 
+-- 01's table, row by row
 unfoldable pub classes : List Class
 classes =
     row 1 19 19 true false  -- extra biomass

@@ -39,7 +39,7 @@ mostNumbers = headerNumbers + plantFields * mostPlants + segmentFields * mostSeg
 
 unfoldable pub header : Reader Header
 header = do
-  edition ← field wrongEdition (eqb edition)
+  _ ← field wrongEdition (eqb edition)
   plants ← field wrongCount plantsAllowed
   segments ← field wrongCount segmentsAllowed
   lines ← field wrongCount linesAllowed

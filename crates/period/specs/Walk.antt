@@ -15,7 +15,7 @@ pub record Standing : Type 0 where
 abbrev pub starting : Plant → Standing
 starting plant = record { before = plant .first; amount = plant .exported }
 
--- Whether a plant's route passes a segment, for a plant that stands before it or past it.
+-- Whether a plant's route passes a segment, asked when the segment's turn comes: the plant then stands before it.
 abbrev pub passes : ℕ → Standing → Bool
 passes own standing = eqb (standing .before) own
 
