@@ -37,7 +37,7 @@ enough (suc n) (suc m) (b ∷ bytes) p q = by-answer (reading (b ∷ bytes)) ref
         ap (number v) (again (drop next (b ∷ bytes)) (omega (arith, p, s .one)) (omega (arith, q, s .one)))
 
 -- ---- the run at the front of the bytes
-pub run-number : (bytes : List ℕ) (v n : ℕ) → reading bytes ≡ oneNumber v n → run bytes ≡ number v (run (drop n bytes))
+run-number : (bytes : List ℕ) (v n : ℕ) → reading bytes ≡ oneNumber v n → run bytes ≡ number v (run (drop n bytes))
 unfolding run runOf
 run-number [] v n e = clash (cc nothing-left)
 run-number (b ∷ bytes) v n e =
@@ -52,7 +52,7 @@ pub data Faulty : Run → ℕ → Type 0 where
   ended : Faulty over ends
   faulty : {k : ℕ} → Faulty (fault k) k
 
-pub run-fault : (bytes : List ℕ) (k : ℕ) → reading bytes ≡ oneFault k → Faulty (run bytes) k
+run-fault : (bytes : List ℕ) (k : ℕ) → reading bytes ≡ oneFault k → Faulty (run bytes) k
 unfolding run runOf
 run-fault [] k e = let is : ends ≡ k = cc nothing-left in rw is at ended
 run-fault (b ∷ bytes) k e = rw e faulty

@@ -1,4 +1,4 @@
--- A rule of a table, proved at all of its rows by one test that is computed over the whole table.
+-- What a test says that passes at every row of a table: it passes at the row of each code.
 use Prim.Native.Nat.{ℕ, zero, suc, _+_, _<_}
 use mathlib.Core.Bool.{Bool, true, false, _&&_}
 use mathlib.Core.List.{List, [], _∷_}
@@ -11,7 +11,7 @@ both true b t = (tt, t)
 both false b t = absurd t
 
 module _ {A : Type 0} where
-  -- the rule holds of each row and its code, where the first row has this code
+  -- the test passes at every row with its code, where the first row has this code and the codes go up by one
   abbrev pub throughout : (ℕ → A → Bool) → ℕ → List A → Bool
   throughout rule code [] = true
   throughout rule code (row ∷ rows) = rule code row && throughout rule (suc code) rows

@@ -6,7 +6,7 @@ use lib.Dec.{eqb}
 use Rattle.period.specs.declared.records.plant.Plant.{Plant}
 use Rattle.period.specs.declared.records.segment.Segment.{Segment}
 
--- A plant on its way: the segment that it stands before, 0 behind its store, and its amount there.
+-- Where a plant is with its CO2: before which segment, 0 when it is past its store, and with what amount.
 pub record Standing : Type 0 where
   pub before : ℕ
   pub amount : ℕ
@@ -51,7 +51,7 @@ sentOn own next standing credit = cond (passes own standing) (record { before = 
 unfoldable pub passed : ℕ → Segment → List Standing → List Standing
 passed own segment standings = zipWith (sentOn own (segment .next)) standings (credits (segment .outflow) (amounts own standings))
 
--- A turn: a segment with its number, and where all plants stand before it is worked.
+-- One segment's turn: its number, its record, and where the plants are when it begins.
 pub record Turn : Type 0 where
   pub own : ℕ
   pub segment : Segment
@@ -63,7 +63,7 @@ turns own [] standings = []
 turns own (segment ∷ rest) standings =
     record { own = own; segment = segment; standings = standings } ∷ turns (suc own) rest (passed own segment standings)
 
--- Where the plants stand when all segments are worked.
+-- Where the plants are when all segments are worked.
 unfoldable pub arrived : ℕ → List Segment → List Standing → List Standing
 arrived own [] standings = standings
 arrived own (segment ∷ rest) standings = arrived (suc own) rest (passed own segment standings)
