@@ -5,10 +5,10 @@ use mathlib.Core.List.{List, [], _∷_, _++_, zipWith, flatMap}
 use Rattle.number.specs.Groups.{gather, value, padded}
 use Rattle.number.specs.Reading.{reading, formed}
 use Rattle.number.specs.Writing.{writing, written}
-use Rattle.period.specs.Classes.{classes, classAllowed}
-use Rattle.period.specs.Run.{runOf, run}
-use Rattle.period.specs.Fields.{each, reads}
-use Rattle.period.specs.Periods.{header, plant, segment, line, records, period, periodFile}
+use Rattle.records.specs.Classes.{classes, classAllowed}
+use Rattle.records.specs.Run.{runOf, run}
+use Rattle.records.specs.Fields.{each, reads}
+use Rattle.records.specs.Periods.{header, plant, segment, line, records, period, periodFile}
 use Rattle.period.specs.Emissions.{gramsOf, emission}
 use Rattle.period.specs.Walk.{sum, creditsFrom, passed, turns, arrived}
 use Rattle.period.specs.Accounts.{setOf, account}

@@ -1,15 +1,4 @@
--- The tests of fields, and the rule of the class table.
-mod Ranges
-mod Table
-mod Classes
--- What a file's bytes are as a run of numbers, and how a run is read.
-mod Runs
-mod Fields
-mod Stages
-mod Whole
-mod WaysOut
--- No two outcomes meet a promise; what reading refuses is refused.
-pub mod Outcome
+-- What reading refuses is refused.
 pub mod Refused
 -- The whole period of 01 and its proved cases.
 pub mod Examples

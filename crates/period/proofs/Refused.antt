@@ -2,8 +2,8 @@
 use Prim.Native.Nat.{ℕ}
 use mathlib.Core.Path.{_≡_, ap}
 use mathlib.Core.List.{List}
-use Rattle.period.specs.Fields.{Read, refused}
-use Rattle.period.specs.Periods.{Period, periodFile}
+use Rattle.records.specs.Fields.{Read, refused}
+use Rattle.records.specs.Periods.{Period, periodFile}
 use Rattle.period.specs.Order.{refusal}
 use Rattle.period.specs.Quantified.{afterReading, quantified}
 

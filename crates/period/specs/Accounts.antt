@@ -3,8 +3,8 @@ use Prim.Native.Nat.{ℕ, suc, _+_, _*_, _^_}
 use mathlib.Core.Bool.{cond}
 use mathlib.Core.List.{List, [], _∷_, map}
 use lib.ListN.{getD}
-use Rattle.period.specs.declared.records.line.Line.{Line}
-use Rattle.period.specs.Classes.{segmentOwner}
+use Rattle.records.specs.declared.line.Line.{Line}
+use Rattle.records.specs.Classes.{segmentOwner}
 use Rattle.period.specs.Emissions.{emission, roundedUp}
 use Rattle.period.specs.Walk.{Standing, passes, amounts, sum, Turn}
 

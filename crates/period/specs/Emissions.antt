@@ -3,7 +3,7 @@ use Prim.Native.Nat.{ℕ, _+_, _-_, _*_, _/_}
 use mathlib.Core.Bool.{Bool, cond, _&&_}
 use mathlib.Core.List.{List, [], _∷_}
 use lib.Dec.{eqb}
-use Rattle.period.specs.declared.records.line.Line.{Line}
+use Rattle.records.specs.declared.line.Line.{Line}
 
 -- "The total may be at most 4,000,000,000,000 g."
 abbrev pub mostGrams : ℕ

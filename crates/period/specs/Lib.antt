@@ -1,16 +1,5 @@
--- The definitions of 01, lowest first.
+-- The definitions of 01 for the accounts and the answer to a file, lowest first.
 
--- the records: their limits, and the tests of their fields
-pub mod Ranges
-pub mod Plants
-pub mod Segments
-pub mod Classes
-pub mod Lines
--- the file: a run of numbers, read front to back
-pub mod Refusals
-pub mod Run
-pub mod Fields
-pub mod Periods
 -- the accounts
 pub mod Emissions
 pub mod Walk
@@ -19,8 +8,3 @@ pub mod Rows
 -- the answer to a file
 pub mod Order
 pub mod Quantified
--- the code's answers in these terms
-pub mod Limits
-pub mod Answers
-pub mod Held
-pub mod Inside

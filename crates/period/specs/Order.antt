@@ -5,9 +5,9 @@ use mathlib.Core.List.{List, [], _∷_}
 use lib.ListN.{length, take}
 use lib.Dec.{ltb, eqb}
 use Rattle.number.specs.Groups.{largest}
-use Rattle.period.specs.declared.records.line.Line.{Line}
-use Rattle.period.specs.Refusals.{tooManyGrams, inflowTooLarge, outflowOverInflow, emissionWithoutInflow, plantTableShort, segmentTableShort}
-use Rattle.period.specs.Periods.{Period}
+use Rattle.records.specs.declared.line.Line.{Line}
+use Rattle.records.specs.Refusals.{tooManyGrams, inflowTooLarge, outflowOverInflow, emissionWithoutInflow, plantTableShort, segmentTableShort}
+use Rattle.records.specs.Periods.{Period}
 use Rattle.period.specs.Emissions.{mostGrams, gramsOf}
 use Rattle.period.specs.Accounts.{Account}
 

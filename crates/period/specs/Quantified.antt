@@ -1,8 +1,8 @@
 -- The answer to a period file: what the call gives for every file and every pair of tables.
 use Prim.Native.Nat.{ℕ}
 use mathlib.Core.List.{List, _++_, map}
-use Rattle.period.specs.Fields.{Read, read, refused}
-use Rattle.period.specs.Periods.{Period, periodFile}
+use Rattle.records.specs.Fields.{Read, read, refused}
+use Rattle.records.specs.Periods.{Period, periodFile}
 use Rattle.period.specs.Walk.{Standing, starting, turns, arrived}
 use Rattle.period.specs.Accounts.{Account, account}
 use Rattle.period.specs.Rows.{plantRows, segmentRows}

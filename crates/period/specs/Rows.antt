@@ -1,10 +1,10 @@
 -- "Result of a plant" and "Result of a segment": the rows, in 01's order.
 use Prim.Native.Nat.{ℕ, suc, _+_, _-_, _*_, _/_}
 use mathlib.Core.List.{List, [], _∷_, _++_}
-use Rattle.period.specs.declared.records.plant.Plant.{Plant}
-use Rattle.period.specs.declared.records.line.Line.{Line}
-use Rattle.period.specs.Plants.{millionths}
-use Rattle.period.specs.Classes.{plantOwner}
+use Rattle.records.specs.declared.plant.Plant.{Plant}
+use Rattle.records.specs.declared.line.Line.{Line}
+use Rattle.records.specs.Plants.{millionths}
+use Rattle.records.specs.Classes.{plantOwner}
 use Rattle.period.specs.Emissions.{emission}
 use Rattle.period.specs.Walk.{Standing}
 use Rattle.period.specs.Accounts.{Account, charges}

@@ -8,11 +8,11 @@
 use libc::STDERR_FILENO;
 use libc::STDIN_FILENO;
 use libc::STDOUT_FILENO;
-use period::Answer;
-use period::Line;
-use period::Plant;
-use period::Reading;
-use period::Segment;
+use records::Answer;
+use records::Line;
+use records::Plant;
+use records::Reading;
+use records::Segment;
 
 // The edition of the files that are read.
 const EDITION: u64 = 1;
@@ -72,7 +72,7 @@ fn answer_file(file: &mut [u8]) -> bool {
         io::write_all(STDERR_FILENO, b"readings: the input ends inside a file\n");
         return false;
     }
-    print(period::read(file))
+    print(records::read(file))
 }
 
 // Prints the line of a reading, and answers whether it could be written.

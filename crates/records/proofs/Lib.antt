@@ -1,0 +1,12 @@
+-- The tests of fields, and the rule of the class table.
+mod Ranges
+mod Table
+mod Classes
+-- What a file's bytes are as a run of numbers, and how a run is read.
+mod Runs
+mod Fields
+mod Stages
+mod Whole
+mod WaysOut
+-- No two outcomes meet a promise.
+pub mod Outcome

@@ -1,0 +1,84 @@
+-- What the tests of fields come to, each from the facts that decide it.
+use Prim.Native.Nat.{ℕ, suc, _≤_, _<_}
+use mathlib.Core.Path.{_≡_, refl, sym}
+use mathlib.Core.Bool.{Bool, true, false, _&&_, _||_, or-false, and-false, true≢false}
+use mathlib.Core.Logic.{_⊎_, inl, inr, ⊎-elim}
+use native.Mathlib.Omega.{arith}
+use lib.Dec.{leb, eqb}
+use borrow.Author.Tests.{le-leb, lt-leb, eq-eqb, ne-eqb, leb-true, eqb-true}
+use Rattle.records.specs.Ranges.{within}
+use Rattle.records.specs.Segments.{nextAllowed, pipeline, intermediateStorage, store}
+use Rattle.records.specs.Classes.{plantOwner, segmentOwner}
+use Rattle.records.specs.Lines.{ownerAllowed}
+
+-- ---- a range, both ends included
+pub in-range : (low high v : ℕ) → low ≤ v → v ≤ high → within low high v ≡ true
+in-range low high v p q = rw (le-leb low v p, le-leb v high q) refl
+
+pub below-range : (low high v : ℕ) → v < low → within low high v ≡ false
+below-range low high v p = rw (lt-leb low v p) refl
+
+pub above-range : (low high v : ℕ) → high < v → within low high v ≡ false
+above-range low high v p = rw (lt-leb v high p) (and-false (leb low v))
+
+-- from its lower end on, only the upper end is left to test
+pub from-low : (low high v : ℕ) → low ≤ v → within low high v ≡ leb v high
+from-low low high v p = rw (le-leb low v p) refl
+
+pub at-most : (low high v : ℕ) → within low high v ≡ true → v ≤ high
+at-most low high v e = by-tests (leb low v) (leb v high) refl e
+  where
+    by-tests : (a b : Bool) → leb v high ≡ b → a && b ≡ true → v ≤ high
+    by-tests true true q h = leb-true v high q
+    by-tests true false q h = absurd (true≢false (sym h))
+    by-tests false b q h = absurd (true≢false (sym h))
+
+-- ---- what a test that passed says
+either : (a b : Bool) → a || b ≡ true → (a ≡ true) ⊎ (b ≡ true)
+either true b h = inl refl
+either false b h = inr h
+
+second : (a b : Bool) → a && b ≡ true → b ≡ true
+second true b h = h
+second false b h = absurd (true≢false (sym h))
+
+pub next-at-most : (segments own kind next : ℕ) → nextAllowed segments own kind next ≡ true → next ≤ segments
+next-at-most segments own kind next h =
+    ⊎-elim
+    (λ a. at-most (suc own) segments next (second (within pipeline intermediateStorage kind) (within (suc own) segments next) a))
+    (λ b. let none : next ≡ 0 = eqb-true next 0 (second (eqb kind store) (eqb next 0) b) in omega arith)
+    (either (within pipeline intermediateStorage kind && within (suc own) segments next) (eqb kind store && eqb next 0) h)
+
+pub owner-at-most :
+    (plants segments ownerKind owner most : ℕ) → plants ≤ most → segments ≤ most → ownerAllowed plants segments ownerKind owner ≡ true → owner ≤ most
+owner-at-most plants segments ownerKind owner most p q h =
+    ⊎-elim
+    (λ a. let k = at-most 1 plants owner (second (eqb ownerKind plantOwner) (within 1 plants owner) a) in omega arith)
+    (λ b. let k = at-most 1 segments owner (second (eqb ownerKind segmentOwner) (within 1 segments owner) b) in omega arith)
+    (either (eqb ownerKind plantOwner && within 1 plants owner) (eqb ownerKind segmentOwner && within 1 segments owner) h)
+
+-- ---- the next segment, by the kind
+module _ (segments own kind next : ℕ) where
+  pub next-after : pipeline ≤ kind → kind ≤ intermediateStorage → nextAllowed segments own kind next ≡ within (suc own) segments next
+  next-after p q =
+      rw (in-range pipeline intermediateStorage kind p q, ne-eqb kind store (λ e. omega arith)) (or-false (within (suc own) segments next))
+
+  pub next-none : kind ≡ store → nextAllowed segments own kind next ≡ eqb next 0
+  next-none e = rw (above-range pipeline intermediateStorage kind (omega arith), eq-eqb kind store e) refl
+
+  pub next-below : kind < pipeline → nextAllowed segments own kind next ≡ false
+  next-below p = rw (below-range pipeline intermediateStorage kind p, ne-eqb kind store (λ e. omega arith)) refl
+
+  pub next-above : intermediateStorage < kind → (kind ≡ store → ⊥) → nextAllowed segments own kind next ≡ false
+  next-above p q = rw (above-range pipeline intermediateStorage kind p, ne-eqb kind store q) refl
+
+-- ---- the owner, by its kind
+module _ (plants segments ownerKind owner : ℕ) where
+  pub owner-plant : ownerKind ≡ plantOwner → ownerAllowed plants segments ownerKind owner ≡ within 1 plants owner
+  owner-plant e = rw (eq-eqb ownerKind plantOwner e, ne-eqb ownerKind segmentOwner (λ h. omega arith)) (or-false (within 1 plants owner))
+
+  pub owner-segment : ownerKind ≡ segmentOwner → ownerAllowed plants segments ownerKind owner ≡ within 1 segments owner
+  owner-segment e = rw (ne-eqb ownerKind plantOwner (λ h. omega arith), eq-eqb ownerKind segmentOwner e) refl
+
+  pub owner-neither : (ownerKind ≡ plantOwner → ⊥) → (ownerKind ≡ segmentOwner → ⊥) → ownerAllowed plants segments ownerKind owner ≡ false
+  owner-neither p q = rw (ne-eqb ownerKind plantOwner p, ne-eqb ownerKind segmentOwner q) refl

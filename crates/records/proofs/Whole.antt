@@ -1,0 +1,106 @@
+-- The stages of reading, one after another, and what the whole file comes to.
+use Prim.Native.Nat.{ℕ, suc, _≤_, _<_}
+use mathlib.Core.Path.{_≡_, refl, ap, _∙_}
+use mathlib.Core.List.{List, [], _∷_}
+use lib.ListN.{length, take, drop, getD, drop-of-length-le}
+use lib.Seq.{drop-cons}
+use denote.Enum.Declared.{tagOf}
+use types.Run.{OneOf, miss}
+use Rattle.records.specs.declared.answer.Answer.{Answer}
+use Rattle.records.specs.declared.answer.Answer.the-variants.{Accepted, Ends, NotShortest, TooLarge, Edition, Count, Plant, Segment, Line, BytesAfter, Grams, Inflow, Outflow, Emission, PlantTable, SegmentTable}
+use Rattle.records.specs.Refusals.{bytesAfter}
+use Rattle.records.specs.Run.{Run, over, fault, number, run}
+use Rattle.records.specs.Fields.{Reader, _>>=_, Read, read, refused, reads}
+use Rattle.records.specs.Periods.{Period, ended}
+use Rattle.records.specs.Answers.{Verdict, accepts, refuses, said}
+use Rattle.records.specs.Held.{filled, Held}
+use Rattle.records.specs.Inside.{Refuses, Staged, nothing}
+use Rattle.records.proofs.answer.Answer.{the-type}
+use Rattle.records.proofs.Runs.{run-over, run-on}
+use Rattle.records.proofs.Stages.{next, one-after}
+
+-- ---- a stage by the code's answer to it
+-- the tags of all answers but accepted
+abbrev pub refusals : List ℕ
+refusals = 1 ∷ 2 ∷ 3 ∷ 4 ∷ 5 ∷ 6 ∷ 7 ∷ 8 ∷ 9 ∷ 10 ∷ 11 ∷ 12 ∷ 13 ∷ 14 ∷ 15 ∷ []
+
+module _ {A : Type 0} {none : A} {room count : ℕ} {outcome : Read (List A)} {array : List A} {place : ℕ} {rest : Run} where
+  pub stage-refuses :
+      (answer : Answer) → OneOf refusals (tagOf the-type answer) → Staged none room count outcome (said answer) array place rest → Refuses (said answer) outcome
+  stage-refuses Accepted tag s = absurd (miss refusals 0 tt tag)
+  stage-refuses (Ends at) tag s = s .comes-to
+  stage-refuses (NotShortest at) tag s = s .comes-to
+  stage-refuses (TooLarge at) tag s = s .comes-to
+  stage-refuses (Edition at) tag s = s .comes-to
+  stage-refuses (Count at) tag s = s .comes-to
+  stage-refuses (Plant at) tag s = s .comes-to
+  stage-refuses (Segment at) tag s = s .comes-to
+  stage-refuses (Line at) tag s = s .comes-to
+  stage-refuses (BytesAfter at) tag s = s .comes-to
+  stage-refuses (Grams at) tag s = s .comes-to
+  stage-refuses (Inflow at) tag s = s .comes-to
+  stage-refuses (Outflow at) tag s = s .comes-to
+  stage-refuses (Emission at) tag s = s .comes-to
+  stage-refuses (PlantTable at) tag s = s .comes-to
+  stage-refuses (SegmentTable at) tag s = s .comes-to
+
+pub accepted : (answer : Answer) → OneOf (0 ∷ []) (tagOf the-type answer) → said answer ≡ accepts
+accepted Accepted tag = refl
+accepted (Ends at) tag = absurd (miss (0 ∷ []) 1 tt tag)
+accepted (NotShortest at) tag = absurd (miss (0 ∷ []) 2 tt tag)
+accepted (TooLarge at) tag = absurd (miss (0 ∷ []) 3 tt tag)
+accepted (Edition at) tag = absurd (miss (0 ∷ []) 4 tt tag)
+accepted (Count at) tag = absurd (miss (0 ∷ []) 5 tt tag)
+accepted (Plant at) tag = absurd (miss (0 ∷ []) 6 tt tag)
+accepted (Segment at) tag = absurd (miss (0 ∷ []) 7 tt tag)
+accepted (Line at) tag = absurd (miss (0 ∷ []) 8 tt tag)
+accepted (BytesAfter at) tag = absurd (miss (0 ∷ []) 9 tt tag)
+accepted (Grams at) tag = absurd (miss (0 ∷ []) 10 tt tag)
+accepted (Inflow at) tag = absurd (miss (0 ∷ []) 11 tt tag)
+accepted (Outflow at) tag = absurd (miss (0 ∷ []) 12 tt tag)
+accepted (Emission at) tag = absurd (miss (0 ∷ []) 13 tt tag)
+accepted (PlantTable at) tag = absurd (miss (0 ∷ []) 14 tt tag)
+accepted (SegmentTable at) tag = absurd (miss (0 ∷ []) 15 tt tag)
+
+pub stage-read :
+    {A : Type 0} {none : A} {room count : ℕ} {outcome : Read (List A)} {verdict : Verdict} {array : List A} {place : ℕ} {rest : Run} →
+    verdict ≡ accepts → Staged none room count outcome verdict array place rest → outcome ≡ read (take count array) place rest
+stage-read is s = rw is at (s .comes-to)
+
+-- ---- one stage after another
+module _ {A B : Type 0} (first : Reader A) (then : A → Reader B) (place : ℕ) (left : Run) where
+  pub after-read :
+      (what : A) (place' : ℕ) (left' : Run) → reads first place left ≡ read what place' left' → reads (first >>= then) place left ≡ reads (then what) place' left'
+  after-read what place' left' e = one-after first then place left ∙ ap (λ (outcome : Read A). next outcome (λ x at rest. reads (then x) at rest)) e
+
+  pub after-refused : (verdict : Verdict) → Refuses verdict (reads first place left) → Refuses verdict (reads (first >>= then) place left)
+  after-refused accepts e = absurd e
+  after-refused (refuses refusal at) e = one-after first then place left ∙ ap (λ (outcome : Read A). next outcome (λ x at' rest. reads (then x) at' rest)) e
+
+pub refused-then-ended : {A : Type 0} (verdict : Verdict) (outcome : Read A) → Refuses verdict outcome → Refuses verdict (ended outcome)
+refused-then-ended accepts outcome e = absurd e
+refused-then-ended (refuses refusal at) outcome e = ap ended e
+
+-- ---- the end of the file
+pub more-left : {A : Type 0} (what : A) (place : ℕ) (file : List ℕ) (at : ℕ) → at < length file → ended (read what place (run (drop at file))) ≡ refused bytesAfter place
+more-left {A} what place file at h =
+    ap (λ (s : List ℕ). ended (read what place (run s))) (drop-cons file at 0 h)
+    ∙ by-run (run (getD file at 0 ∷ drop (suc at) file)) (run-on (getD file at 0) (drop (suc at) file))
+  where
+    by-run : (left : Run) → (left ≡ over → ⊥) → ended (read what place left) ≡ refused bytesAfter place
+    by-run over q = absurd (q refl)
+    by-run (fault k) q = refl
+    by-run (number v rest) q = refl
+
+pub none-left : {A : Type 0} (what : A) (place : ℕ) (file : List ℕ) (at : ℕ) → length file ≤ at → ended (read what place (run (drop at file))) ≡ read what place over
+none-left what place file at h = ap (λ (left : Run). ended (read what place left)) (ap run (drop-of-length-le file h) ∙ run-over)
+
+-- ---- what is held of a refused file
+pub refused-held : (answer : Answer) (outcome : Read Period) → Refuses (said answer) outcome → Held (nothing answer) outcome
+unfolding filled
+refused-held answer outcome e = by-verdict (said answer) refl e
+  where
+    by-verdict : (verdict : Verdict) → said answer ≡ verdict → Refuses verdict outcome → Held (nothing answer) outcome
+    by-verdict accepts is e = absurd e
+    by-verdict (refuses refusal place) is e =
+        rw e (record { answer = is; plant-count = refl; plants = refl; segment-count = refl; segments = refl; line-count = refl; lines = refl })

@@ -1,0 +1,28 @@
+-- `records::line::Line::new` meets its contract: a field that is within its limit fits its type. Assumes nothing.
+use native.Mathlib.Omega.{arith}
+use borrow.Author.Needs.{needs}
+use Rattle.records.specs.Classes.{classes}
+use Rattle.records.proofs.line.Line.new.Statement.{statement}
+use Rattle.records.proofs.line.Line.new.Tie as tie
+
+cast-t6 : tie.Need-cast-t6
+cast-t6 c = search needs
+
+cast-t7 : tie.Need-cast-t7
+cast-t7 c = search needs
+
+cast-t8 : tie.Need-cast-t8
+unfolding classes
+cast-t8 c = omega arith
+
+cast-t9 : tie.Need-cast-t9
+cast-t9 c = search needs
+
+cast-t10 : tie.Need-cast-t10
+cast-t10 c = search needs
+
+returns : tie.Need-returns
+returns c = search needs
+
+pub new-spec : {M : Type 1} → statement M
+new-spec = tie.close (tie.spec cast-t6 cast-t7 cast-t8 cast-t9 cast-t10 returns)

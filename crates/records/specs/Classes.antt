@@ -1,0 +1,43 @@
+-- The table of classes: "This table is fixed data of the program."
+use Prim.Native.Nat.{ℕ}
+use mathlib.Core.Bool.{Bool, true, false, _&&_, _||_}
+use mathlib.Core.List.{List, [], _∷_}
+use lib.Dec.{eqb}
+use Rattle.records.specs.declared.class.Class.{Class}
+
+-- "owner kind (0 plant, 1 segment)"
+abbrev pub plantOwner : ℕ
+plantOwner = 0
+
+abbrev pub segmentOwner : ℕ
+segmentOwner = 1
+
+-- A row: code, first and last equation, whether a plant and whether a segment may have the class.
+abbrev row : (code first last : ℕ) (plant segment : Bool) → Class
+row code first last plant segment = record { code = code; equation = first; «last_equation» = last; plant = plant; segment = segment }
+
+-- 01's table, row by row
+unfoldable pub classes : List Class
+classes =
+    row 1 19 19 true false  -- extra biomass
+    ∷ row 2 20 20 true false  -- biomass storage, ready amount
+    ∷ row 3 21 21 true true  -- fuel
+    ∷ row 4 22 22 true true  -- net electricity
+    ∷ row 5 23 23 true true  -- net useful heat
+    ∷ row 6 24 24 true true  -- inputs
+    ∷ row 7 73 74 true true  -- construction materials
+    ∷ row 8 18 18 true false  -- waste disposal
+    ∷ []
+
+-- Whether a row's class is allowed to an owner of this kind.
+abbrev pub allows : Class → ℕ → Bool
+allows class ownerKind = eqb ownerKind plantOwner && class .plant || eqb ownerKind segmentOwner && class .segment
+
+-- Whether some row has this code and is allowed to this owner.
+abbrev pub allowedBy : List Class → ℕ → ℕ → Bool
+allowedBy [] ownerKind code = false
+allowedBy (class ∷ rest) ownerKind code = eqb (class .code) code && allows class ownerKind || allowedBy rest ownerKind code
+
+-- "class (one that the table below allows this owner)"
+unfoldable pub classAllowed : ℕ → ℕ → Bool
+classAllowed = allowedBy classes

@@ -1,0 +1,43 @@
+// The limits of a period, for callers that make files or room for what they hold.
+ghost use mathlib.Core.Path.{_≡_};
+ghost use Rattle.records.specs.Limits.{limits};
+use crate::class::Class;
+use crate::line::Line;
+use crate::plant::Plant;
+use crate::reading::header::Header;
+use crate::segment::Segment;
+
+pub struct Limits {
+    // The most records of each kind.
+    pub plants: usize,
+    pub segments: usize,
+    pub lines: usize,
+    // The largest fields: an origin fraction, a kind, a class and a factor.
+    pub fraction: u64,
+    pub kind: u64,
+    pub class: u64,
+    pub factor: u64,
+    // The most numbers of a file.
+    pub numbers: u64,
+}
+
+impl Limits {
+    // Every limit as the records state it. The promise ties them to those of the definitions.
+    pub fn new() -> Limits
+        ensures { λ r. ⌜ r ≡ limits ⌝ }
+    {
+        Limits {
+            plants: Plant::MOST,
+            segments: Segment::MOST,
+            lines: Line::MOST,
+            fraction: Plant::LARGEST_FRACTION,
+            kind: Segment::STORE,
+            class: Class::LAST,
+            factor: Line::LARGEST_FACTOR,
+            numbers: Header::FIELDS
+                + Plant::FIELDS * Plant::MOST as u64
+                + Segment::FIELDS * Segment::MOST as u64
+                + Line::FIELDS * Line::MOST as u64,
+        }
+    }
+}

@@ -1,0 +1,58 @@
+// Plants: "exported kg; first segment (1 to S); origin fraction in millionths (0 to 1,000,000)".
+ghost use mathlib.Core.Path.{_≡_};
+ghost use Prim.Native.Nat.{_≤_};
+ghost use Rattle.number.specs.Groups.{largest};
+ghost use Rattle.records.specs.Plants.{firstAllowed, fractionAllowed, millionths, plantOf, plantsAllowed};
+ghost use Rattle.records.specs.Segments.{mostSegments};
+
+pub struct Plant {
+    // What it exported, in kg.
+    pub exported: u32,
+    // The number of the first segment of its route.
+    pub first: u8,
+    // Its origin fraction, in millionths.
+    pub fraction: u32,
+}
+
+impl Plant {
+    // The most plants that a period has, and the fewest.
+    pub const MOST: usize = 16;
+
+    pub const FEWEST: u64 = 1;
+    // The numbers of its record in the file.
+    pub const FIELDS: u64 = 3;
+    // The largest origin fraction: the whole.
+    pub const LARGEST_FRACTION: u64 = 1_000_000;
+
+    // Whether a period may have so many plants.
+    pub(crate) fn count_allowed(count: u64) -> bool
+        ensures { λ r. ⌜ r ≡ plantsAllowed count ⌝ }
+    {
+        Plant::FEWEST <= count && count <= Plant::MOST as u64
+    }
+
+    // Whether a route may start at this segment.
+    pub(crate) fn first_allowed(first: u64, segments: u64) -> bool
+        ensures { λ r. ⌜ r ≡ firstAllowed segments first ⌝ }
+    {
+        1 <= first && first <= segments
+    }
+
+    pub(crate) fn fraction_allowed(fraction: u64) -> bool
+        ensures { λ r. ⌜ r ≡ fractionAllowed fraction ⌝ }
+    {
+        fraction <= Plant::LARGEST_FRACTION
+    }
+
+    // The plant of fields that have passed their tests.
+    pub(crate) fn new(exported: u64, first: u64, fraction: u64) -> Plant
+        requires { ⌜ (exported ≤ largest) × (first ≤ mostSegments) × (fraction ≤ millionths) ⌝ }
+        ensures { λ r. ⌜ r ≡ plantOf exported first fraction ⌝ }
+    {
+        Plant {
+            exported: exported as u32,
+            first: first as u8,
+            fraction: fraction as u32,
+        }
+    }
+}

@@ -1,0 +1,75 @@
+// Segments: "kind; metered outflow in kg; next segment".
+ghost use mathlib.Core.Path.{_≡_};
+ghost use Prim.Native.Nat.{_≤_};
+ghost use Rattle.number.specs.Groups.{largest};
+ghost use Rattle.records.specs.Segments.{
+  kindAllowed,
+  mostSegments,
+  nextAllowed,
+  segmentOf,
+  segmentsAllowed,
+  store,
+};
+
+pub struct Segment {
+    // Its kind: a means of transport, an intermediate storage, or the geological store.
+    pub kind: u8,
+    // Its metered outflow, in kg.
+    pub outflow: u32,
+    // The number of the next segment, and 0 behind a store.
+    pub next: u8,
+}
+
+impl Segment {
+    // The most segments that a period has, and the fewest.
+    pub const MOST: usize = 32;
+
+    pub const FEWEST: u64 = 1;
+    // The numbers of its record in the file.
+    pub const FIELDS: u64 = 3;
+    // The kinds that name a next segment: pipeline, road, rail, water, intermediate storage.
+    pub const PIPELINE: u64 = 1;
+
+    pub const INTERMEDIATE_STORAGE: u64 = 5;
+    // The kind that has none: a geological store.
+    pub const STORE: u64 = 6;
+
+    // Whether a period may have so many segments.
+    pub(crate) fn count_allowed(count: u64) -> bool
+        ensures { λ r. ⌜ r ≡ segmentsAllowed count ⌝ }
+    {
+        Segment::FEWEST <= count && count <= Segment::MOST as u64
+    }
+
+    pub(crate) fn kind_allowed(kind: u64) -> bool
+        ensures { λ r. ⌜ r ≡ kindAllowed kind ⌝ }
+    {
+        match kind {
+            Segment::PIPELINE..=Segment::STORE => true,
+            _ => false,
+        }
+    }
+
+    // Whether a segment of this kind, with its own number, may name this next segment.
+    pub(crate) fn next_allowed(next: u64, kind: u64, own: u64, segments: u64) -> bool
+        ensures { λ r. ⌜ r ≡ nextAllowed segments own kind next ⌝ }
+    {
+        match kind {
+            Segment::PIPELINE..=Segment::INTERMEDIATE_STORAGE => own < next && next <= segments,
+            Segment::STORE => next == 0,
+            _ => false,
+        }
+    }
+
+    // The segment of fields that have passed their tests.
+    pub(crate) fn new(kind: u64, outflow: u64, next: u64) -> Segment
+        requires { ⌜ (kind ≤ store) × (outflow ≤ largest) × (next ≤ mostSegments) ⌝ }
+        ensures { λ r. ⌜ r ≡ segmentOf kind outflow next ⌝ }
+    {
+        Segment {
+            kind: kind as u8,
+            outflow: outflow as u32,
+            next: next as u8,
+        }
+    }
+}
