@@ -1,11 +1,11 @@
 //! How many questions are put to a program at once: their frames, one after the other.
 //!
-//! Every frame ends with a file: its length (4 bytes, least significant first), then its bytes.
+//! Every frame ends with the bytes of a file; lengths have 4 bytes, least significant first.
 
 use crate::questions::Question;
 use std::fmt;
 
-/// Bytes of a file's length.
+/// Bytes of a length.
 const LENGTH_BYTES: usize = 4;
 
 /// The input ends inside a frame.
@@ -51,16 +51,27 @@ pub fn read_frames<Q: Question>(input: &[u8]) -> Result<Vec<Q>, CutShort> {
 
 /// Appends a file: its length, then its bytes.
 pub fn write_file(file: &[u8], frames: &mut Vec<u8>) {
-    let length = u32::try_from(file.len()).expect("a case's length fits its 4 bytes");
-    frames.extend(length.to_le_bytes());
+    write_length(file.len(), frames);
     frames.extend(file);
+}
+
+/// Appends a length.
+pub fn write_length(length: usize, frames: &mut Vec<u8>) {
+    let length = u32::try_from(length).expect("a case's lengths fit their 4 bytes");
+    frames.extend(length.to_le_bytes());
 }
 
 /// The file that stands first in the input and what follows it; nothing if it is cut short.
 pub fn first_file(input: &[u8]) -> Option<(&[u8], &[u8])> {
+    let (length, rest) = first_length(input)?;
+    split(rest, length)
+}
+
+/// The length that stands first in the input and what follows it; nothing if it is cut short.
+pub fn first_length(input: &[u8]) -> Option<(usize, &[u8])> {
     let (length, rest) = split(input, LENGTH_BYTES)?;
     let length = u32::from_le_bytes(length.try_into().ok()?);
-    split(rest, usize::try_from(length).ok()?)
+    Some((usize::try_from(length).ok()?, rest))
 }
 
 /// The first bytes of the input and the rest; nothing if there are fewer.
@@ -72,6 +83,7 @@ pub fn split(input: &[u8], length: usize) -> Option<(&[u8], &[u8])> {
 mod tests {
     use super::*;
     use crate::numbers::question::NumberAt;
+    use crate::periods::historian::call::{HistorianCall, TableBytes};
     use crate::periods::question::PeriodFile;
     use std::fmt::Debug;
 
@@ -90,6 +102,15 @@ mod tests {
 
     fn two_files() -> Vec<PeriodFile> {
         [vec![0x01, 0x02, 0x80], vec![]].map(PeriodFile).to_vec()
+    }
+
+    fn two_calls() -> Vec<HistorianCall> {
+        let calls = [(vec![0x01, 0x80], 0x0102_0304, 5), (vec![], 0, 0)];
+        let calls = calls.map(|(file, plant, segment)| HistorianCall {
+            file,
+            tables: TableBytes { plant, segment },
+        });
+        calls.to_vec()
     }
 
     /// Asserts that the frames of two questions read back, and that every cut is said.
@@ -124,8 +145,16 @@ mod tests {
     }
 
     #[test]
+    fn frame_of_a_call_is_three_lengths_then_bytes() {
+        let frames = write_frames(&two_calls()[..1]);
+        let expected = [2, 0, 0, 0, 4, 3, 2, 1, 5, 0, 0, 0, 0x01, 0x80];
+        assert_eq!(frames, expected);
+    }
+
+    #[test]
     fn written_frames_read_back_and_cuts_are_said() {
         assert_read_back(&two_numbers());
         assert_read_back(&two_files());
+        assert_read_back(&two_calls());
     }
 }

@@ -1,6 +1,7 @@
 //! The second program: it answers from the paper by itself, and compares its
 //! answers with those of another program.
 
+mod answer_line;
 mod compare;
 mod frames;
 mod numbers;
@@ -8,14 +9,20 @@ mod periods;
 mod questions;
 mod seeded;
 
-use compare::{Fault, Program};
+use compare::one_run::compare_in_one_run;
+use compare::program::Program;
+use compare::starts::compare_starts;
+use compare::{compare_suites, CompareCases, Fault};
 use numbers::question::NumberAt;
 use numbers::suites::number_suites;
-use periods::accounts::{account, Tables};
+use periods::accounts::{account, printed, Tables};
+use periods::historian::call::HistorianCall;
+use periods::historian::historian_suites;
+use periods::printed::printed_suites;
 use periods::question::PeriodFile;
 use periods::seeded::period_cases::period_cases;
 use periods::suites::reading_suites;
-use questions::{Question, Suite};
+use questions::{Answer, Question, Suite};
 use std::env;
 use std::ffi::OsString;
 use std::io::{self, Read, Write};
@@ -29,10 +36,14 @@ const REFUSED: u8 = 1;
 const NOT_DONE: u8 = 2;
 
 const USAGE: &str = "\
-usage: reference answer numbers|readings
-           reads frames on standard input, writes one answer line for each
-       reference compare numbers|readings -- PROGRAM [ARGS..]
-           puts all suites to PROGRAM and compares its answers with its own
+usage: reference answer numbers|readings|historian
+           reads frames on standard input, writes one answer for each: a line, or for
+           historian all that the call leaves
+       reference compare numbers|readings|historian -- PROGRAM [ARGS..]
+           puts each suite to PROGRAM in one run and compares its answers with its own
+       reference compare rows -- PROGRAM [ARGS..]
+           starts PROGRAM for each period file and compares the rows or the refusal it
+           prints with its own
        reference rows
            reads a period file on standard input, writes its rows or its refusal
        reference cases periods SEED COUNT
@@ -43,8 +54,11 @@ usage: reference answer numbers|readings
 enum Task {
     AnswerNumbers,
     AnswerReadings,
+    AnswerHistorian,
     CompareNumbers(Program),
     CompareReadings(Program),
+    CompareHistorian(Program),
+    CompareRows(Program),
     Rows,
     CasesOfPeriods { seed: u64, count: usize },
 }
@@ -54,8 +68,17 @@ fn main() -> ExitCode {
     let done = match task_of(&arguments) {
         Some(Task::AnswerNumbers) => answer::<NumberAt>(),
         Some(Task::AnswerReadings) => answer::<PeriodFile>(),
-        Some(Task::CompareNumbers(program)) => compare(&number_suites(), &program),
-        Some(Task::CompareReadings(program)) => compare(&reading_suites(), &program),
+        Some(Task::AnswerHistorian) => answer::<HistorianCall>(),
+        Some(Task::CompareNumbers(program)) => {
+            compare(&number_suites(), &program, compare_in_one_run)
+        }
+        Some(Task::CompareReadings(program)) => {
+            compare(&reading_suites(), &program, compare_in_one_run)
+        }
+        Some(Task::CompareHistorian(program)) => {
+            compare(&historian_suites(), &program, compare_in_one_run)
+        }
+        Some(Task::CompareRows(program)) => compare(&printed_suites(), &program, compare_starts),
         Some(Task::Rows) => rows(),
         Some(Task::CasesOfPeriods { seed, count }) => cases_of_periods(seed, count),
         None => Err(USAGE.to_string()),
@@ -76,6 +99,7 @@ fn task_of(arguments: &[OsString]) -> Option<Task> {
     match (&words[..], arguments) {
         (["answer", "numbers"], _) => Some(Task::AnswerNumbers),
         (["answer", "readings"], _) => Some(Task::AnswerReadings),
+        (["answer", "historian"], _) => Some(Task::AnswerHistorian),
         (["compare", what, "--", ..], [_, _, _, path, rest @ ..]) => {
             let program = Program {
                 path: path.clone(),
@@ -97,6 +121,8 @@ fn task_to_compare(what: &str, program: Program) -> Option<Task> {
     match what {
         "numbers" => Some(Task::CompareNumbers(program)),
         "readings" => Some(Task::CompareReadings(program)),
+        "historian" => Some(Task::CompareHistorian(program)),
+        "rows" => Some(Task::CompareRows(program)),
         _ => None,
     }
 }
@@ -104,14 +130,18 @@ fn task_to_compare(what: &str, program: Program) -> Option<Task> {
 /// Answers the frames on standard input, all or none of them.
 fn answer<Q: Question>() -> Result<ExitCode, String> {
     let cases = frames::read_frames::<Q>(&input()?).map_err(|error| error.to_string())?;
-    let answers: String = cases.iter().map(Q::answer_line).collect();
-    output(&answers)?;
+    let answers = cases.iter().flat_map(|case| case.answer().bytes());
+    output(&answers.collect::<Vec<u8>>())?;
     Ok(ExitCode::SUCCESS)
 }
 
 /// Compares all suites with the program's answers.
-fn compare<Q: Question>(suites: &[Suite<Q>], program: &Program) -> Result<ExitCode, String> {
-    match compare::compare_suites(suites, program, &mut io::stdout()) {
+fn compare<C>(
+    suites: &[Suite<C>],
+    program: &Program,
+    compare_cases: CompareCases<C>,
+) -> Result<ExitCode, String> {
+    match compare_suites(suites, program, compare_cases, &mut io::stdout()) {
         Ok(true) => Ok(ExitCode::SUCCESS),
         Ok(false) => Ok(ExitCode::from(DIFFERS)),
         Err(Fault::Program(error)) => Err(format!(
@@ -124,15 +154,11 @@ fn compare<Q: Question>(suites: &[Suite<Q>], program: &Program) -> Result<ExitCo
 
 /// Writes the rows of the period file on standard input, or its refusal.
 fn rows() -> Result<ExitCode, String> {
-    match account(&input()?, Tables::LARGE_ENOUGH) {
-        Ok(rows) => {
-            output(&rows.to_string())?;
-            Ok(ExitCode::SUCCESS)
-        }
-        Err(refused) => {
-            output(&format!("{refused}\n"))?;
-            Ok(ExitCode::from(REFUSED))
-        }
+    let accounted = account(&input()?, Tables::LARGE_ENOUGH);
+    output(printed(&accounted).as_bytes())?;
+    match accounted {
+        Ok(_) => Ok(ExitCode::SUCCESS),
+        Err(_) => Ok(ExitCode::from(REFUSED)),
     }
 }
 
@@ -140,7 +166,7 @@ fn rows() -> Result<ExitCode, String> {
 fn cases_of_periods(seed: u64, count: usize) -> Result<ExitCode, String> {
     let cases = period_cases(seed).take(count);
     let lines: String = cases.map(|case| format!("{case}\n")).collect();
-    output(&lines)?;
+    output(lines.as_bytes())?;
     Ok(ExitCode::SUCCESS)
 }
 
@@ -153,9 +179,9 @@ fn input() -> Result<Vec<u8>, String> {
     Ok(input)
 }
 
-/// Writes the text to standard output.
-fn output(text: &str) -> Result<(), String> {
+/// Writes the bytes to standard output.
+fn output(bytes: &[u8]) -> Result<(), String> {
     io::stdout()
-        .write_all(text.as_bytes())
+        .write_all(bytes)
         .map_err(|error| format!("cannot write to standard output: {error}"))
 }

@@ -1,7 +1,10 @@
-//! What can be asked of a program: many questions in one run, one answer line for each.
+//! What can be asked of a program: many questions in one run, one answer for each.
 
 /// A question that is put to a program as a frame of bytes and has one right answer.
 pub trait Question: Sized {
+    /// The form of its answer.
+    type Answer: Answer;
+
     /// The labels of all answers such a question can have, in the order of the report.
     const LABELS: &'static [&'static str];
 
@@ -11,17 +14,45 @@ pub trait Question: Sized {
     /// The question of the first frame and what follows it; nothing if the frame is cut short.
     fn first_frame(input: &[u8]) -> Option<(Self, &[u8])>;
 
-    /// Our own answer, one line with its newline.
-    fn answer_line(&self) -> String;
+    /// Our own answer.
+    fn answer(&self) -> Self::Answer;
 
     /// All that is needed to ask the question again, in words.
     fn in_words(&self) -> String;
 }
 
-/// Questions that are compared and counted together.
-pub struct Suite<Q> {
+/// The right answer to a question, which what came from a program is compared with.
+pub trait Answer {
+    /// What the answer is counted as.
+    fn label(&self) -> String;
+
+    /// The bytes with which a program gives this answer.
+    fn bytes(&self) -> Vec<u8>;
+
+    /// How many bytes at the start of the output came for this answer; 0 only if none came.
+    fn length_in(&self, output: &[u8]) -> usize;
+
+    /// What was expected and what came instead, in words.
+    fn difference(&self, came: &[u8]) -> String;
+}
+
+/// Cases that are compared and counted together.
+pub struct Suite<C> {
     pub name: &'static str,
-    pub cases: Vec<Q>,
+    pub cases: Vec<C>,
+    /// How often each answer that can be must be expected at least, else the suite fails.
+    pub each_answer_at_least: usize,
+}
+
+impl<C> Suite<C> {
+    /// A suite that need not meet every answer.
+    pub fn new(name: &'static str, cases: Vec<C>) -> Self {
+        Suite {
+            name,
+            cases,
+            each_answer_at_least: 0,
+        }
+    }
 }
 
 /// The label of an answer line: its letter, and for a refusal its number too.

@@ -63,6 +63,20 @@ impl Seeded {
     pub fn byte(&mut self) -> u8 {
         self.bits().to_le_bytes()[0]
     }
+
+    /// A total cut into parts at seeded places.
+    pub fn parts(&mut self, total: u64, parts: usize) -> Vec<u64> {
+        let mut cuts: Vec<u64> = (1..parts).map(|_| self.within(0..=total)).collect();
+        cuts.push(total);
+        cuts.sort_unstable();
+        let mut before = 0;
+        let part_up_to = |cut| {
+            let part = cut - before;
+            before = cut;
+            part
+        };
+        cuts.into_iter().map(part_up_to).collect()
+    }
 }
 
 #[cfg(test)]
@@ -101,5 +115,15 @@ mod tests {
         let small = drawn.iter().filter(|&&number| number < 10).count();
         assert!(small > 300);
         assert_eq!(seeded.of_any_size(0), 0);
+    }
+
+    #[test]
+    fn parts_add_up_to_the_total() {
+        let mut seeded = Seeded::new(0);
+        for count in 1..=16 {
+            let parts = seeded.parts(1000, count);
+            assert_eq!(parts.len(), count);
+            assert_eq!(parts.iter().sum::<u64>(), 1000);
+        }
     }
 }

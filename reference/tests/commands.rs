@@ -84,15 +84,45 @@ fn period_file_cut_short_is_said() {
 }
 
 #[test]
+fn calls_of_the_historian_are_answered_with_all_they_leave() {
+    // Refused: an empty file, tables of 3 and 2 bytes.
+    let refused = [0, 0, 0, 0, 3, 0, 0, 0, 2, 0, 0, 0];
+    // Accepted: one plant without export and one store, each table with a spare byte.
+    let file = [1, 1, 1, 0, 0, 1, 0, 6, 0, 0];
+    let accepted = [&[10, 0, 0, 0, 65, 0, 0, 0, 41, 0, 0, 0][..], &file].concat();
+    let output = run(
+        &["answer", "historian"],
+        &[&refused[..], &accepted].concat(),
+    );
+
+    let expected = [
+        &[1, 0, 0, 0, 0, 0, 0, 0, 0, 0, 0, 0, 90, 107, 124, 165, 194][..],
+        &[0; 12],
+        &[0; 64],
+        &[154],
+        &[0; 32],
+        &[1, 0, 0, 0, 0, 0, 0, 0],
+        &[45],
+    ];
+    assert_eq!(output.stdout, expected.concat());
+    assert_eq!(output.status.code(), Some(0));
+}
+
+#[test]
 fn program_agrees_with_itself() {
-    for (what, suites) in [("numbers", 5), ("readings", 11)] {
+    for (what, suites) in [("numbers", 5), ("readings", 11), ("historian", 14)] {
         let output = run(&["compare", what, "--", REFERENCE, "answer", what], &[]);
-        assert_eq!(
-            text(&output.stdout).lines().last(),
-            Some(&format!("{suites} passed, 0 failed")[..])
-        );
-        assert_eq!(output.status.code(), Some(0));
+        assert_passed(&output, suites);
     }
+    let output = run(&["compare", "rows", "--", REFERENCE, "rows"], &[]);
+    assert_passed(&output, 5);
+}
+
+/// Asserts that so many suites passed and none failed.
+fn assert_passed(output: &Output, suites: usize) {
+    let last = text(&output.stdout).lines().last();
+    assert_eq!(last, Some(&format!("{suites} passed, 0 failed")[..]));
+    assert_eq!(output.status.code(), Some(0));
 }
 
 #[test]
@@ -102,6 +132,27 @@ fn program_that_answers_other_questions_fails() {
     let report = text(&output.stdout);
     assert!(report.contains("expected \"A 1 2 2 2 10000 "));
     assert_eq!(report.lines().last(), Some("0 passed, 11 failed"));
+    assert_eq!(output.status.code(), Some(1));
+}
+
+#[test]
+fn program_that_leaves_the_historian_without_answers_fails() {
+    let other = ["compare", "historian", "--", REFERENCE, "rows"];
+    let output = run(&other, &[]);
+    let report = text(&output.stdout);
+    assert!(report.contains("expected refusal 0 and place 0, came only 6 of 220 bytes"));
+    assert!(report.contains("case 2: bytes [], plant table of 128 bytes, "));
+    assert_eq!(report.lines().last(), Some("0 passed, 14 failed"));
+    assert_eq!(output.status.code(), Some(1));
+}
+
+#[test]
+fn program_that_prints_on_standard_error_fails() {
+    let other = ["compare", "rows", "--", REFERENCE, "answer", "readings"];
+    let output = run(&other, &[]);
+    let report = text(&output.stdout);
+    assert!(report.contains("standard error is not empty: \"the input ends inside a frame"));
+    assert_eq!(report.lines().last(), Some("0 passed, 5 failed"));
     assert_eq!(output.status.code(), Some(1));
 }
 
@@ -151,7 +202,7 @@ fn cases_of_periods_are_written_one_to_a_line() {
 fn program_that_answers_nothing_fails_every_suite() {
     let output = run(&["compare", "numbers", "--", REFERENCE], &[]);
     let report = text(&output.stdout);
-    assert!(report.contains("too few lines: 0 for 65792 cases"));
+    assert!(report.contains("too few answers: 0 for 65792 cases"));
     assert!(report.contains("the program ended with"));
     assert_eq!(report.lines().last(), Some("0 passed, 5 failed"));
     assert_eq!(output.status.code(), Some(1));
@@ -168,15 +219,18 @@ fn program_that_cannot_start_is_said_in_one_line() {
 
 #[test]
 fn bad_usage_prints_how_to_call() {
-    let bad: [&[&str]; 15] = [
+    let bad: [&[&str]; 18] = [
         &[],
         &["answer"],
         &["answer", "numbers", "more"],
         &["compare", "numbers"],
         &["compare", "numbers", "--"],
         &["compare", "numbers", REFERENCE, "answer", "numbers"],
-        &["compare", "rows", "--", REFERENCE],
+        &["compare", "periods", "--", REFERENCE],
         &["compare", "readings"],
+        &["compare", "historian"],
+        &["compare", "rows", "--"],
+        &["compare", "rows", REFERENCE, "rows"],
         &["answer", "rows"],
         &["rows", "more"],
         &["cases"],

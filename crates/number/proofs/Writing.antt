@@ -1,13 +1,13 @@
 -- What is written in the shortest form reads back, and what is read was in the shortest form.
-use Prim.Native.Nat.{ℕ, zero, suc, _+_, _*_, _/_, _%_, _^_, _≤_, _<_}
+use Prim.Native.Nat.{ℕ, zero, suc, _+_, _-_, _*_, _/_, _%_, _^_, _≤_, _<_}
 use mathlib.Core.Path.{_≡_, refl, sym, ap, ap₂, _∙_}
 use mathlib.Core.List.{List, [], _∷_, _++_}
 use mathlib.Core.Logic.{_⊎_, inl, inr, ⊎-elim}
 use mathlib.Core.Bool.{false, true≢false}
-use native.Mathlib.Nat.{mod-lt, mod-eq-of-lt, div-lt-iff-lt-mul}
+use native.Mathlib.Nat.{mod-lt, mod-eq-of-lt, div-lt-iff-lt-mul, pow-suc}
 use native.Mathlib.Decide.{decLe, decLt}
 use native.Mathlib.Omega.{arith}
-use lib.ListN.{length, take, drop, take-append-drop, length-drop}
+use lib.ListN.{length, getD, take, drop, take-append-drop, length-drop}
 use lib.Seq.{drop-append-seam, getD-drop, drop-drop, length-take-le}
 use lib.Dec.{lit<}
 use borrow.Author.Tests.{lt-ltb, le-ltb}
@@ -162,3 +162,27 @@ one-form file at v n all e =
           (sym (take-append-drop m (drop at file)) ∙ ap₂ (λ (x y : List ℕ). x ++ y) form rest);
       next-is = next-is ∙ ap (λ (x : ℕ). at + x) (sym size ∙ ap length form);
     }
+
+-- ---- the bytes of a number, by its value
+-- a group that is not zero stands below every power that is above the value
+group-below : (groups : List ℕ) (i bytes : ℕ) → 0 < getD groups i 0 → value groups < radix ^ bytes → i < bytes
+unfolding value
+group-below [] i bytes some small = absurd (omega arith)
+group-below (g ∷ groups) zero zero some small = absurd (omega arith)
+group-below (g ∷ groups) zero (suc bytes) some small = omega arith
+group-below (g ∷ groups) (suc i) zero some small = let below = group-below groups i zero some (omega arith) in absurd (omega arith)
+group-below (g ∷ groups) (suc i) (suc bytes) some small = let below = group-below groups i bytes some (omega (arith, pow-suc radix bytes)) in omega arith
+
+-- so a number that was read takes no more bytes
+pub few-bytes : (file : List ℕ) (at v n : ℕ) → readAt file at ≡ number v n → (bytes : ℕ) → 0 < bytes → v < radix ^ bytes → n ≤ at + bytes
+few-bytes file at v n e bytes one small =
+    let (m, q, next-is) = at-front file at v n e in
+    let r = reads (drop at file) v m q in
+    let groups = r .groups in
+    let f = r .formed-so in
+    let few : length groups ≤ bytes =
+    ⊎-elim
+    (λ single. omega arith)
+    (λ other. let below = group-below groups (length groups - 1) bytes (omega (arith, other)) (rw (f .value-is) small) in omega arith)
+    (shortest-form groups (f .shortest)) in
+    omega (arith, f .size-is)

@@ -30,5 +30,8 @@ gramsOf ownerKind owner (line ∷ lines) = cond (ownedBy ownerKind owner line) (
 abbrev pub gramsInKg : ℕ
 gramsInKg = 1000
 
+abbrev pub inKg : ℕ → ℕ
+inKg total = roundedUp total gramsInKg
+
 unfoldable pub emission : ℕ → ℕ → List Line → ℕ
-emission ownerKind owner lines = roundedUp (gramsOf ownerKind owner lines) gramsInKg
+emission ownerKind owner lines = inKg (gramsOf ownerKind owner lines)

@@ -8,3 +8,6 @@ pub mod Rows
 -- the answer to a file
 pub mod Order
 pub mod Quantified
+-- the code's answers in these terms
+pub mod Written
+pub mod Inside

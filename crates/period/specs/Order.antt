@@ -2,12 +2,11 @@
 use Prim.Native.Nat.{ℕ, suc, _*_}
 use mathlib.Core.Bool.{Bool, cond, _&&_}
 use mathlib.Core.List.{List, [], _∷_}
-use lib.ListN.{length, take}
+use lib.ListN.{take}
 use lib.Dec.{ltb, eqb}
 use Rattle.number.specs.Groups.{largest}
 use Rattle.records.specs.declared.line.Line.{Line}
 use Rattle.records.specs.Refusals.{tooManyGrams, inflowTooLarge, outflowOverInflow, emissionWithoutInflow, plantTableShort, segmentTableShort}
-use Rattle.records.specs.Periods.{Period}
 use Rattle.period.specs.Emissions.{mostGrams, gramsOf}
 use Rattle.period.specs.Accounts.{Account}
 
@@ -55,10 +54,10 @@ abbrev pub segmentNumbers : ℕ
 segmentNumbers = 5
 
 -- "Then 14, then 15."
-abbrev pub tableTests : Period → (plantTable segmentTable : ℕ) → List Test
-tableTests period plantTable segmentTable =
-    let plants = plantNumbers * length (period .plants) in
-    let segments = segmentNumbers * length (period .segments) in
-    record { fails = ltb plantTable plants; number = plantTableShort; place = plants }
-    ∷ record { fails = ltb segmentTable segments; number = segmentTableShort; place = segments }
+abbrev pub tableTests : (plants segments plantTable segmentTable : ℕ) → List Test
+tableTests plants segments plantTable segmentTable =
+    let plantsNeed = plantNumbers * plants in
+    let segmentsNeed = segmentNumbers * segments in
+    record { fails = ltb plantTable plantsNeed; number = plantTableShort; place = plantsNeed }
+    ∷ record { fails = ltb segmentTable segmentsNeed; number = segmentTableShort; place = segmentsNeed }
     ∷ []

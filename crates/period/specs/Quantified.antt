@@ -1,6 +1,7 @@
 -- The answer to a period file: what the call gives for every file and every pair of tables.
 use Prim.Native.Nat.{ℕ}
 use mathlib.Core.List.{List, _++_, map}
+use lib.ListN.{length}
 use Rattle.records.specs.Fields.{Read, read, refused}
 use Rattle.records.specs.Periods.{Period, periodFile}
 use Rattle.period.specs.Walk.{Standing, starting, turns, arrived}
@@ -26,7 +27,11 @@ rows period accounts =
 -- A period that was read, put to the tests that are left, with tables of so many numbers.
 unfoldable pub judged : Period → List Account → (plantTable segmentTable : ℕ) → Answer
 judged period accounts plantTable segmentTable =
-    tested (lineTests (period .lines) 0 (period .lines) ++ (segmentTests accounts ++ tableTests period plantTable segmentTable)) (rows period accounts)
+    tested
+    (lineTests (period .lines) 0 (period .lines)
+    ++ (segmentTests accounts
+    ++ tableTests (length (period .plants)) (length (period .segments)) plantTable segmentTable))
+    (rows period accounts)
 
 -- What reading came to, and then the rest.
 abbrev pub afterReading : Read Period → (plantTable segmentTable : ℕ) → Answer

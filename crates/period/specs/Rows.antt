@@ -37,9 +37,9 @@ plantRows lines accounts index (plant ∷ plants) (standing ∷ arrived) =
     plantRow plant (standing .amount) (associated lines accounts index) ++ plantRows lines accounts (suc index) plants arrived
 
 -- "A; D; A − D; E; the set of plants as a number"
-abbrev pub segmentRow : Account → List ℕ
-segmentRow a = let lost = a .inflow - a .outflow in a .inflow ∷ a .outflow ∷ lost ∷ a .emission ∷ a .plants ∷ []
+abbrev pub segmentRow : (inflow outflow emission plants : ℕ) → List ℕ
+segmentRow inflow outflow emission plants = let lost = inflow - outflow in inflow ∷ outflow ∷ lost ∷ emission ∷ plants ∷ []
 
 unfoldable pub segmentRows : List Account → List ℕ
 segmentRows [] = []
-segmentRows (a ∷ accounts) = segmentRow a ++ segmentRows accounts
+segmentRows (a ∷ accounts) = segmentRow (a .inflow) (a .outflow) (a .emission) (a .plants) ++ segmentRows accounts

@@ -5,8 +5,12 @@ mod Classes
 -- What a file's bytes are as a run of numbers, and how a run is read.
 mod Runs
 mod Fields
+pub mod Verdicts
 mod Stages
 mod Whole
 mod WaysOut
+-- What a file that was read holds, and how long it is.
+pub mod Within
+pub mod Longest
 -- No two outcomes meet a promise.
 pub mod Outcome

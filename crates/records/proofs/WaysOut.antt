@@ -22,7 +22,8 @@ use Rattle.records.specs.Answers.{said}
 use Rattle.records.specs.Held.{Held}
 use Rattle.records.specs.Inside.{announced, plantsRead, segmentsRead, linesRead, nothing}
 use Rattle.records.proofs.answer.Answer.{the-type}
-use Rattle.records.proofs.Whole.{refusals, stage-refuses, stage-read, accepted, after-read, after-refused, refused-then-ended, more-left, none-left, refused-held}
+use Rattle.records.proofs.Verdicts.{refusals, accepted}
+use Rattle.records.proofs.Whole.{stage-refuses, stage-read, after-read, after-refused, refused-then-ended, more-left, none-left, refused-held}
 
 -- ---- the stages of the definition, and what follows each
 abbrev plantsOf : Header → Reader (List Plant)

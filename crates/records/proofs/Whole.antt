@@ -5,9 +5,8 @@ use mathlib.Core.List.{List, [], _∷_}
 use lib.ListN.{length, take, drop, getD, drop-of-length-le}
 use lib.Seq.{drop-cons}
 use denote.Enum.Declared.{tagOf}
-use types.Run.{OneOf, miss}
+use types.Run.{OneOf}
 use Rattle.records.specs.declared.answer.Answer.{Answer}
-use Rattle.records.specs.declared.answer.Answer.the-variants.{Accepted, Ends, NotShortest, TooLarge, Edition, Count, Plant, Segment, Line, BytesAfter, Grams, Inflow, Outflow, Emission, PlantTable, SegmentTable}
 use Rattle.records.specs.Refusals.{bytesAfter}
 use Rattle.records.specs.Run.{Run, over, fault, number, run}
 use Rattle.records.specs.Fields.{Reader, _>>=_, Read, read, refused, reads}
@@ -17,50 +16,18 @@ use Rattle.records.specs.Held.{filled, Held}
 use Rattle.records.specs.Inside.{Refuses, Staged, nothing}
 use Rattle.records.proofs.answer.Answer.{the-type}
 use Rattle.records.proofs.Runs.{run-over, run-on}
+use Rattle.records.proofs.Verdicts.{refusals, not-accepted}
 use Rattle.records.proofs.Stages.{next, one-after}
 
 -- ---- a stage by the code's answer to it
--- the tags of all answers but accepted
-abbrev pub refusals : List ℕ
-refusals = 1 ∷ 2 ∷ 3 ∷ 4 ∷ 5 ∷ 6 ∷ 7 ∷ 8 ∷ 9 ∷ 10 ∷ 11 ∷ 12 ∷ 13 ∷ 14 ∷ 15 ∷ []
-
 module _ {A : Type 0} {none : A} {room count : ℕ} {outcome : Read (List A)} {array : List A} {place : ℕ} {rest : Run} where
+  by-verdict : (verdict : Verdict) → (verdict ≡ accepts → ⊥) → Staged none room count outcome verdict array place rest → Refuses verdict outcome
+  by-verdict accepts not s = absurd (not refl)
+  by-verdict (refuses refusal at) not s = s .comes-to
+
   pub stage-refuses :
       (answer : Answer) → OneOf refusals (tagOf the-type answer) → Staged none room count outcome (said answer) array place rest → Refuses (said answer) outcome
-  stage-refuses Accepted tag s = absurd (miss refusals 0 tt tag)
-  stage-refuses (Ends at) tag s = s .comes-to
-  stage-refuses (NotShortest at) tag s = s .comes-to
-  stage-refuses (TooLarge at) tag s = s .comes-to
-  stage-refuses (Edition at) tag s = s .comes-to
-  stage-refuses (Count at) tag s = s .comes-to
-  stage-refuses (Plant at) tag s = s .comes-to
-  stage-refuses (Segment at) tag s = s .comes-to
-  stage-refuses (Line at) tag s = s .comes-to
-  stage-refuses (BytesAfter at) tag s = s .comes-to
-  stage-refuses (Grams at) tag s = s .comes-to
-  stage-refuses (Inflow at) tag s = s .comes-to
-  stage-refuses (Outflow at) tag s = s .comes-to
-  stage-refuses (Emission at) tag s = s .comes-to
-  stage-refuses (PlantTable at) tag s = s .comes-to
-  stage-refuses (SegmentTable at) tag s = s .comes-to
-
-pub accepted : (answer : Answer) → OneOf (0 ∷ []) (tagOf the-type answer) → said answer ≡ accepts
-accepted Accepted tag = refl
-accepted (Ends at) tag = absurd (miss (0 ∷ []) 1 tt tag)
-accepted (NotShortest at) tag = absurd (miss (0 ∷ []) 2 tt tag)
-accepted (TooLarge at) tag = absurd (miss (0 ∷ []) 3 tt tag)
-accepted (Edition at) tag = absurd (miss (0 ∷ []) 4 tt tag)
-accepted (Count at) tag = absurd (miss (0 ∷ []) 5 tt tag)
-accepted (Plant at) tag = absurd (miss (0 ∷ []) 6 tt tag)
-accepted (Segment at) tag = absurd (miss (0 ∷ []) 7 tt tag)
-accepted (Line at) tag = absurd (miss (0 ∷ []) 8 tt tag)
-accepted (BytesAfter at) tag = absurd (miss (0 ∷ []) 9 tt tag)
-accepted (Grams at) tag = absurd (miss (0 ∷ []) 10 tt tag)
-accepted (Inflow at) tag = absurd (miss (0 ∷ []) 11 tt tag)
-accepted (Outflow at) tag = absurd (miss (0 ∷ []) 12 tt tag)
-accepted (Emission at) tag = absurd (miss (0 ∷ []) 13 tt tag)
-accepted (PlantTable at) tag = absurd (miss (0 ∷ []) 14 tt tag)
-accepted (SegmentTable at) tag = absurd (miss (0 ∷ []) 15 tt tag)
+  stage-refuses answer tag s = by-verdict (said answer) (not-accepted answer tag) s
 
 pub stage-read :
     {A : Type 0} {none : A} {room count : ℕ} {outcome : Read (List A)} {verdict : Verdict} {array : List A} {place : ℕ} {rest : Run} →

@@ -11,6 +11,8 @@ pub mod Refusals
 pub mod Run
 pub mod Fields
 pub mod Periods
+pub mod Within
+pub mod Longest
 -- the code's answers in these terms
 pub mod Limits
 pub mod Answers

@@ -2,6 +2,7 @@
 //! significant first) and the file.
 
 use super::number::{read_number, Reading};
+use crate::answer_line::AnswerLine;
 use crate::frames::{first_file, split, write_file};
 use crate::questions::{hex, Question};
 
@@ -16,6 +17,8 @@ pub struct NumberAt {
 }
 
 impl Question for NumberAt {
+    type Answer = AnswerLine;
+
     const LABELS: &'static [&'static str] = &["N", "R1", "R2", "R3"];
 
     fn write_frame(&self, frames: &mut Vec<u8>) {
@@ -31,11 +34,11 @@ impl Question for NumberAt {
         Some((NumberAt { file, place }, rest))
     }
 
-    fn answer_line(&self) -> String {
-        match read_number(&self.file, self.place) {
+    fn answer(&self) -> AnswerLine {
+        AnswerLine(match read_number(&self.file, self.place) {
             Reading::Number { value, next } => format!("N {value} {next}\n"),
             Reading::Refused(refusal) => format!("R {} {}\n", refusal.number(), self.place),
-        }
+        })
     }
 
     fn in_words(&self) -> String {
@@ -55,11 +58,11 @@ mod tests {
     #[test]
     fn answers_are_one_line_each() {
         let number = asked(&[0xFF, 0xFF, 0xAC, 0x02], 2);
-        assert_eq!(number.answer_line(), "N 300 4\n");
+        assert_eq!(number.answer().0, "N 300 4\n");
         let past_the_end = asked(&[0x01], u64::MAX);
-        assert_eq!(past_the_end.answer_line(), "R 1 18446744073709551615\n");
+        assert_eq!(past_the_end.answer().0, "R 1 18446744073709551615\n");
         let too_large = asked(&[0x00, 0x80, 0x80, 0x80, 0x80, 0x80], 1);
-        assert_eq!(too_large.answer_line(), "R 3 1\n");
+        assert_eq!(too_large.answer().0, "R 3 1\n");
     }
 
     #[test]

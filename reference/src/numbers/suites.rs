@@ -11,26 +11,23 @@ use std::ops::RangeInclusive;
 /// All suites for number reading.
 pub fn number_suites() -> Vec<Suite<NumberAt>> {
     vec![
-        Suite {
-            name: "numbers, all of one and two bytes",
-            cases: one_and_two_bytes(),
-        },
-        Suite {
-            name: "numbers, all bytes at the edges of three to six",
-            cases: bytes_at_edges(),
-        },
-        Suite {
-            name: "numbers, values at and around every edge",
-            cases: values_at_edges(),
-        },
-        Suite {
-            name: "numbers, places in the file and far past it",
-            cases: places_near_and_far(),
-        },
-        Suite {
-            name: "numbers, seeded whole and damaged",
-            cases: seeded_whole_and_damaged(),
-        },
+        Suite::new("numbers, all of one and two bytes", one_and_two_bytes()),
+        Suite::new(
+            "numbers, all bytes at the edges of three to six",
+            bytes_at_edges(),
+        ),
+        Suite::new(
+            "numbers, values at and around every edge",
+            values_at_edges(),
+        ),
+        Suite::new(
+            "numbers, places in the file and far past it",
+            places_near_and_far(),
+        ),
+        Suite::new(
+            "numbers, seeded whole and damaged",
+            seeded_whole_and_damaged(),
+        ),
     ]
 }
 
@@ -361,7 +358,7 @@ fn seeded_byte(seeded: &mut Seeded) -> u8 {
 #[cfg(test)]
 mod tests {
     use super::*;
-    use crate::compare::Tally;
+    use crate::compare::tally::Tally;
     use crate::numbers::number::{read_number, Reading};
 
     #[test]
@@ -373,7 +370,7 @@ mod tests {
 
     #[test]
     fn what_reads_in_any_case_is_the_written_form() {
-        for Suite { name, cases } in number_suites() {
+        for Suite { name, cases, .. } in number_suites() {
             for NumberAt { file, place } in cases {
                 if let Reading::Number { value, next } = read_number(&file, place) {
                     let bytes = &file[place as usize..next as usize];
@@ -407,7 +404,7 @@ mod tests {
     #[test]
     fn suites_meet_each_answer_they_can() {
         const AT_LEAST: usize = 100;
-        for Suite { name, cases } in number_suites() {
+        for Suite { name, cases, .. } in number_suites() {
             let tally = Tally::of(&cases);
             for label in ["N", "R1", "R2"] {
                 assert!(tally.count(label) >= AT_LEAST, "{name}: {tally}");

@@ -51,6 +51,14 @@ pub fn account(file: &[u8], tables: Tables) -> Result<Rows, Refused> {
     Ok(Rows::new(&period, &emissions, &flow))
 }
 
+/// What is printed for a file: its rows, or its refusal in one line.
+pub fn printed(accounted: &Result<Rows, Refused>) -> String {
+    match accounted {
+        Ok(rows) => rows.to_string(),
+        Err(refused) => format!("{refused}\n"),
+    }
+}
+
 #[cfg(test)]
 mod tests {
     use super::*;

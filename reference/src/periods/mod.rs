@@ -1,11 +1,15 @@
 //! Period files: reading them, the accounts of the paper, and the questions about them.
 
+mod account_limits;
 pub mod accounts;
 mod case;
 mod emissions;
 mod fields;
 mod flow;
+pub mod historian;
+mod outflows;
 mod paper;
+pub mod printed;
 pub mod question;
 mod reading;
 mod records;

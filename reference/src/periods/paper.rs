@@ -28,7 +28,7 @@ const FIRST_FACTOR: usize = 20;
 const ONE_BYTE_MORE: u8 = 0x00;
 
 /// Tables just large enough for the whole period.
-const TABLES: Tables = Tables {
+pub const TABLES: Tables = Tables {
     plant: 16,
     segment: 10,
 };

@@ -2,6 +2,7 @@
 
 use super::reading::read_period;
 use super::rows::spaced;
+use crate::answer_line::AnswerLine;
 use crate::frames::{first_file, write_file};
 use crate::questions::{hex, Question};
 
@@ -10,6 +11,8 @@ use crate::questions::{hex, Question};
 pub struct PeriodFile(pub Vec<u8>);
 
 impl Question for PeriodFile {
+    type Answer = AnswerLine;
+
     const LABELS: &'static [&'static str] =
         &["A", "R1", "R2", "R3", "R4", "R5", "R6", "R7", "R8", "R9"];
 
@@ -22,11 +25,11 @@ impl Question for PeriodFile {
         Some((PeriodFile(file.to_vec()), rest))
     }
 
-    fn answer_line(&self) -> String {
-        match read_period(&self.0) {
+    fn answer(&self) -> AnswerLine {
+        AnswerLine(match read_period(&self.0) {
             Ok(period) => format!("A {}\n", spaced(&period.numbers())),
             Err(refused) => format!("{refused}\n"),
-        }
+        })
     }
 
     fn in_words(&self) -> String {
@@ -42,11 +45,11 @@ mod tests {
     #[test]
     fn answers_are_one_line_each() {
         assert_eq!(
-            PeriodFile(whole_period()).answer_line(),
+            PeriodFile(whole_period()).answer().0,
             "A 1 2 2 2 10000 1 1000000 5001 1 900000 1 14900 2 6 14899 0 \
              0 1 4 2000 350 1 1 3 101 2650\n"
         );
-        assert_eq!(PeriodFile(vec![0x01]).answer_line(), "R 1 1\n");
+        assert_eq!(PeriodFile(vec![0x01]).answer().0, "R 1 1\n");
     }
 
     #[test]

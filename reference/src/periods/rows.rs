@@ -125,11 +125,19 @@ impl Rows {
         }
     }
 
+    /// The numbers of the plant table.
+    pub fn plant_numbers(&self) -> Vec<u64> {
+        self.plants.iter().flat_map(PlantRow::numbers).collect()
+    }
+
+    /// The numbers of the segment table.
+    pub fn segment_numbers(&self) -> Vec<u64> {
+        self.segments.iter().flat_map(SegmentRow::numbers).collect()
+    }
+
     /// The numbers of the plant table, then those of the segment table.
     pub fn numbers(&self) -> Vec<u64> {
-        let plants = self.plants.iter().flat_map(PlantRow::numbers);
-        let segments = self.segments.iter().flat_map(SegmentRow::numbers);
-        plants.chain(segments).collect()
+        [self.plant_numbers(), self.segment_numbers()].concat()
     }
 }
 

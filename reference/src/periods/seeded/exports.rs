@@ -59,7 +59,7 @@ pub fn set_exports(exports: Exports, period: &mut Period, seeded: &mut Seeded) {
 /// Shares the limit of the inflow among the plants of every store.
 fn fill_stores(period: &mut Period, seeded: &mut Seeded) {
     for plants in plants_by_store(period).values() {
-        let parts = seeded_parts(LIMIT, plants.len(), seeded);
+        let parts = seeded.parts(LIMIT, plants.len());
         for (&plant, part) in plants.iter().zip(parts) {
             period.plants[plant].exported = part;
         }
@@ -94,18 +94,4 @@ fn store_after(period: &Period, mut segment: usize) -> usize {
         segment = period.segments[segment - 1].next;
     }
     segment
-}
-
-/// A total cut into parts at seeded places.
-fn seeded_parts(total: u64, parts: usize, seeded: &mut Seeded) -> Vec<u64> {
-    let mut cuts: Vec<u64> = (1..parts).map(|_| seeded.within(0..=total)).collect();
-    cuts.push(total);
-    cuts.sort_unstable();
-    let mut before = 0;
-    let part_up_to = |cut| {
-        let part = cut - before;
-        before = cut;
-        part
-    };
-    cuts.into_iter().map(part_up_to).collect()
 }

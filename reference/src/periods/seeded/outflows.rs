@@ -1,7 +1,7 @@
 //! Seeded outflows, chosen with the inflow of each segment known.
 
 use crate::numbers::number::LIMIT;
-use crate::periods::flow::{credits, exports_entering, inflow_of};
+use crate::periods::outflows::choose_outflows;
 use crate::periods::records::Period;
 use crate::seeded::Seeded;
 
@@ -29,21 +29,12 @@ const PARTS_TO_A_LOST_ONE: u64 = 50;
 /// Gives every segment its outflow in rising number and says what the inflows
 /// are; the exports must be there already.
 pub fn set_outflows(outflows: Outflows, period: &mut Period, seeded: &mut Seeded) -> Vec<u64> {
-    let over_at = seeded.up_to(period.segments.len() - 1);
-    let mut entering = exports_entering(period);
-    for (index, segment) in period.segments.iter_mut().enumerate() {
-        let inflow = inflow_of(&entering[index]);
-        segment.outflow = match outflows {
-            Outflows::OneOver if index == over_at => LIMIT.min(inflow + 1),
-            Outflows::FarOver if index == over_at => seeded.within(LIMIT.min(inflow + 1)..=LIMIT),
-            _ => seeded_outflow(outflows, inflow.min(LIMIT), seeded),
-        };
-        let credits = credits(&entering[index], segment.outflow.min(inflow));
-        if !segment.is_store() {
-            entering[segment.next - 1].extend(credits);
-        }
-    }
-    entering.iter().map(inflow_of).collect()
+    let over_at = 1 + seeded.up_to(period.segments.len() - 1);
+    choose_outflows(period, |number, inflow| match outflows {
+        Outflows::OneOver if number == over_at => LIMIT.min(inflow + 1),
+        Outflows::FarOver if number == over_at => seeded.within(LIMIT.min(inflow + 1)..=LIMIT),
+        _ => seeded_outflow(outflows, inflow.min(LIMIT), seeded),
+    })
 }
 
 /// An outflow that is not above the inflow.

@@ -150,9 +150,22 @@ const MOST_TOO_LONG: usize = 20;
 
 /// The paper's own cases, then seeded ones without end.
 pub fn period_cases(seed: u64) -> impl Iterator<Item = PeriodCase> {
+    proved_cases().into_iter().chain(seeded_cases(seed))
+}
+
+/// Seeded cases without end.
+pub fn seeded_cases(seed: u64) -> impl Iterator<Item = PeriodCase> {
     let mut seeded = Seeded::new(seed);
-    let of_seed = (0..).map(move |turn| seeded_case(turn, &mut seeded));
-    proved_cases().into_iter().chain(of_seed)
+    (0..).map(move |turn| seeded_case(turn, &mut seeded))
+}
+
+/// A full-size file for every goal there is, accepted and refused.
+pub fn full_size_files(seed: u64) -> Vec<Vec<u8>> {
+    let mut seeded = Seeded::new(seed);
+    let goals = ACCEPTED.into_iter().map(Goal::Accepted).chain(REFUSED);
+    goals
+        .map(|goal| case_for(goal, Size::Full, &mut seeded).file)
+        .collect()
 }
 
 /// The case whose turn it is: accepted and refused goals alternate, sizes go round beside them.

@@ -7,18 +7,23 @@ use crate::seeded::Seeded;
 use std::iter;
 
 /// The 256 byte values.
-fn all_bytes() -> impl Iterator<Item = u8> {
+pub fn all_bytes() -> impl Iterator<Item = u8> {
     u8::MIN..=u8::MAX
 }
 
-/// Every proper prefix of small and middle-size whole files.
+/// Every cut of small and middle-size whole files.
 pub fn every_cut() -> Vec<Vec<u8>> {
     let mut files = Vec::new();
     for numbers in small_and_middle() {
-        let whole = write_numbers(numbers);
-        files.extend((0..whole.len()).map(|length| whole[..length].to_vec()));
+        files.extend(cuts_of(&write_numbers(numbers)));
     }
     files
+}
+
+/// Every proper prefix of a file.
+pub fn cuts_of(whole: &[u8]) -> Vec<Vec<u8>> {
+    let lengths = 0..whole.len();
+    lengths.map(|length| whole[..length].to_vec()).collect()
 }
 
 /// Each byte of small whole files changed to each of the 256 values.
@@ -34,22 +39,15 @@ pub fn each_byte_changed() -> Vec<Vec<u8>> {
 }
 
 /// The file with one byte changed.
-fn with_byte(file: &[u8], place: usize, byte: u8) -> Vec<u8> {
+pub fn with_byte(file: &[u8], place: usize, byte: u8) -> Vec<u8> {
     let mut changed = file.to_vec();
     changed[place] = byte;
     changed
 }
 
-/// Whole files followed by each single byte and by longer runs of bytes.
+/// Whole files followed by bytes, also by themselves.
 pub fn bytes_after() -> Vec<Vec<u8>> {
-    let single = all_bytes().map(|byte| vec![byte]);
-    let mut tails: Vec<Vec<u8>> = single.collect();
-    for length in 2..=LONGEST_RUN_AFTER {
-        tails.extend(BYTES_OF_RUNS_AFTER.map(|byte| vec![byte; length]));
-    }
-    tails.push(whole_period());
-    tails.push(write_numbers(&SMALLEST));
-
+    let tails = tails();
     let mut files = Vec::new();
     for numbers in small_and_middle() {
         let whole = write_numbers(numbers);
@@ -59,6 +57,18 @@ pub fn bytes_after() -> Vec<Vec<u8>> {
     let longest = write_numbers(&longest());
     files.push([&longest[..], &longest].concat());
     files
+}
+
+/// What may come after a whole file: each single byte, longer runs of bytes, another file.
+pub fn tails() -> Vec<Vec<u8>> {
+    let single = all_bytes().map(|byte| vec![byte]);
+    let mut tails: Vec<Vec<u8>> = single.collect();
+    for length in 2..=LONGEST_RUN_AFTER {
+        tails.extend(BYTES_OF_RUNS_AFTER.map(|byte| vec![byte; length]));
+    }
+    tails.push(whole_period());
+    tails.push(write_numbers(&SMALLEST));
+    tails
 }
 
 /// Bytes that are repeated after whole files.

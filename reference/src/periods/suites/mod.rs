@@ -1,11 +1,11 @@
 //! The suites of cases for reading period files. Every run asks the same ones.
 
-mod bytes;
+pub mod bytes;
 mod damaged_files;
 mod full_size;
 mod limits;
 mod values;
-mod whole_files;
+pub mod whole_files;
 
 use super::paper::proved_files;
 use super::question::PeriodFile;
@@ -48,13 +48,13 @@ pub fn reading_suites() -> Vec<Suite<PeriodFile>> {
 
 fn suite(name: &'static str, files: Vec<Vec<u8>>) -> Suite<PeriodFile> {
     let cases = files.into_iter().map(PeriodFile).collect();
-    Suite { name, cases }
+    Suite::new(name, cases)
 }
 
 #[cfg(test)]
 mod tests {
     use super::*;
-    use crate::compare::Tally;
+    use crate::compare::tally::Tally;
     use crate::questions::Question;
 
     /// The answers that each suite must meet, and how often at least.
@@ -80,7 +80,7 @@ mod tests {
     fn suites_meet_each_answer_they_can() {
         let suites = reading_suites();
         assert_eq!(suites.len(), MET.len());
-        for (Suite { name, cases }, (labels, at_least)) in suites.iter().zip(MET) {
+        for (Suite { name, cases, .. }, (labels, at_least)) in suites.iter().zip(MET) {
             let tally = Tally::of(cases);
             for label in labels {
                 assert!(tally.count(label) >= at_least, "{name}: {tally}");
@@ -103,8 +103,8 @@ mod tests {
             .collect();
         assert!((60_000..=120_000).contains(&cases.len()));
         assert!(cases.iter().all(|case| case.0.len() <= LARGEST_FILE));
-        let answers = cases.iter().map(PeriodFile::answer_line);
-        let many = answers.filter(|line| line.split(' ').count() > MANY_NUMBERS);
+        let answers = cases.iter().map(PeriodFile::answer);
+        let many = answers.filter(|line| line.0.split(' ').count() > MANY_NUMBERS);
         assert!((60..=300).contains(&many.count()));
     }
 }

@@ -1,0 +1,135 @@
+/* harness: what the benchmark measures. FILE is a name of files.h; FUNCTION is steeplecuff, plain, or empty, which does
+   nothing.
+     harness size FILE                   prints the file's bytes and numbers
+     harness same FILE                   ends with 1 where steeplecuff and plain do not answer alike
+     harness calls FUNCTION FILE TIMES   calls the function so many times
+     harness stack FUNCTION FILE         prints the bytes of stack of one call
+   Ends with 2 where it is asked for something else. */
+#include <stdio.h>
+#include <stdlib.h>
+#include <string.h>
+
+#include "files.h"
+#include "plain.h"
+#include "stack_use.h"
+#include "steeplecuff.h"
+
+enum { DIFFERENT = 1, CANNOT_GO_ON = 2, DECIMAL = 10 };
+
+typedef uint32_t quantify(const uint8_t *, size_t, uint8_t *, size_t, uint8_t *, size_t, uint64_t *);
+
+struct answer {
+    uint8_t plants[STEEPLECUFF_MOST_PLANT_BYTES];
+    uint8_t segments[STEEPLECUFF_MOST_SEGMENT_BYTES];
+    uint32_t refusal;
+    uint64_t place;
+};
+
+/* One call: its function, its file and its answer. */
+struct call {
+    quantify *function;
+    struct file file;
+    struct answer answer;
+};
+
+static struct call call;
+
+/* Says what to write instead of a word; answers the status to end with. */
+static int complain(const char *message, const char *word)
+{
+    fprintf(stderr, "harness: write %s, not %s\n", message, word);
+    return CANNOT_GO_ON;
+}
+
+/* Stands for what any call costs. */
+static uint32_t empty_quantify(const uint8_t *file, size_t file_len, uint8_t *plants, size_t plants_len,
+                               uint8_t *segments, size_t segments_len, uint64_t *place)
+{
+    (void)file, (void)file_len, (void)plants, (void)plants_len, (void)segments, (void)segments_len, (void)place;
+    return STEEPLECUFF_ACCEPTED;
+}
+
+static void choose_function(const char *name)
+{
+    if (strcmp(name, "steeplecuff") == 0)
+        call.function = steeplecuff_quantify;
+    else if (strcmp(name, "plain") == 0)
+        call.function = plain_quantify;
+    else if (strcmp(name, "empty") == 0)
+        call.function = empty_quantify;
+    else
+        exit(complain("steeplecuff, plain or empty", name));
+}
+
+static void choose_file(const char *name)
+{
+    if (!make_file(&call.file, name))
+        exit(complain("whole, full or refused", name));
+}
+
+static void make_call(void *made)
+{
+    struct call *one = made;
+    struct answer *answer = &one->answer;
+    answer->refusal = one->function(one->file.bytes, one->file.len, answer->plants, sizeof answer->plants,
+                                    answer->segments, sizeof answer->segments, &answer->place);
+}
+
+/* The answer of a function, the tables zero behind the rows. */
+static struct answer answer_of(const char *function)
+{
+    choose_function(function);
+    memset(&call.answer, 0, sizeof call.answer);
+    make_call(&call);
+    return call.answer;
+}
+
+static int print_size(const char *file)
+{
+    choose_file(file);
+    printf("%zu %zu\n", call.file.len, call.file.numbers);
+    return 0;
+}
+
+static int compare(const char *file)
+{
+    static struct answer ours, plain;
+    choose_file(file);
+    ours = answer_of("steeplecuff");
+    plain = answer_of("plain");
+    bool alike = ours.refusal == call.file.refusal && plain.refusal == call.file.refusal && ours.place == plain.place &&
+                 memcmp(ours.plants, plain.plants, sizeof ours.plants) == 0 &&
+                 memcmp(ours.segments, plain.segments, sizeof ours.segments) == 0;
+    return alike ? 0 : DIFFERENT;
+}
+
+static int repeat(const char *function, const char *file, long times)
+{
+    choose_function(function);
+    choose_file(file);
+    for (long i = 0; i < times; i++)
+        make_call(&call);
+    return 0;
+}
+
+static int print_stack(const char *function, const char *file)
+{
+    choose_function(function);
+    choose_file(file);
+    printf("%zu\n", stack_use(make_call, &call));
+    return 0;
+}
+
+int main(int argc, char **argv)
+{
+    const char *word = argc > 1 ? argv[1] : "nothing";
+    if (argc == 3 && strcmp(word, "size") == 0)
+        return print_size(argv[2]);
+    if (argc == 3 && strcmp(word, "same") == 0)
+        return compare(argv[2]);
+    if (argc == 5 && strcmp(word, "calls") == 0)
+        return repeat(argv[2], argv[3], strtol(argv[4], NULL, DECIMAL));
+    if (argc == 4 && strcmp(word, "stack") == 0)
+        return print_stack(argv[2], argv[3]);
+    return complain("size FILE, same FILE, calls FUNCTION FILE TIMES or stack FUNCTION FILE", word);
+}

@@ -1,0 +1,33 @@
+-- No two outcomes meet the promise of the call from C.
+use Prim.Native.Nat.{ℕ}
+use mathlib.Core.Path.{_≡_, sym, ap, _∙_}
+use mathlib.Core.List.{List}
+use Rattle.records.specs.Answers.{numberOf, placeOf}
+use Rattle.period.specs.Written.{verdictOf}
+use Rattle.historian.specs.Tables.{answerTo, plantBytesAfter, segmentBytesAfter}
+
+-- What a call leaves to its caller.
+pub record Outcome : Type 0 where
+  pub result : ℕ
+  pub place : ℕ
+  pub plants : List ℕ
+  pub segments : List ℕ
+
+-- The promise of `steeplecuff_quantify`, clause by clause.
+pub record Promised (file plants segments : List ℕ) (outcome : Outcome) : Type 0 where
+  pub result : outcome .result ≡ numberOf (verdictOf (answerTo file plants segments))
+  pub place : outcome .place ≡ placeOf (verdictOf (answerTo file plants segments))
+  pub plants-after : outcome .plants ≡ plantBytesAfter (answerTo file plants segments) plants
+  pub segments-after : outcome .segments ≡ segmentBytesAfter (answerTo file plants segments) segments
+
+-- an outcome by its parts
+abbrev made : (result place : ℕ) (plants segments : List ℕ) → Outcome
+made result place plants segments = record { result = result; place = place; plants = plants; segments = segments }
+
+-- `steeplecuff_quantify`: two outcomes that meet its promise, of one file and the same tables, are the same
+pub one-outcome : (file plants segments : List ℕ) (a b : Outcome) → Promised file plants segments a → Promised file plants segments b → a ≡ b
+one-outcome file plants segments a b p q =
+    ap (λ (x : ℕ). made x (a .place) (a .plants) (a .segments)) (p .result ∙ sym (q .result))
+    ∙ ap (λ (x : ℕ). made (b .result) x (a .plants) (a .segments)) (p .place ∙ sym (q .place))
+    ∙ ap (λ (x : List ℕ). made (b .result) (b .place) x (a .segments)) (p .plants-after ∙ sym (q .plants-after))
+    ∙ ap (made (b .result) (b .place) (b .plants)) (p .segments-after ∙ sym (q .segments-after))

@@ -1,0 +1,44 @@
+-- The tables of a C caller: "for the C caller a table is bytes, eight a number, least significant first, its length counted in whole
+-- numbers".
+use Prim.Native.Nat.{ℕ, zero, suc, _*_, _/_, _%_}
+use mathlib.Core.List.{List, [], _∷_, _++_, flatMap}
+use lib.ListN.{length, drop}
+use Rattle.period.specs.Order.{Answer, refusal, accepted}
+use Rattle.period.specs.Quantified.{quantified}
+
+-- The bytes of a number, and the values that a byte has.
+abbrev pub numberBytes : ℕ
+numberBytes = 8
+
+abbrev pub byteValues : ℕ
+byteValues = 256
+
+-- "its length counted in whole numbers"
+abbrev pub wholeNumbers : List ℕ → ℕ
+wholeNumbers table = length table / numberBytes
+
+-- "least significant first": so many bytes of a number
+unfoldable pub bytesOf : (count number : ℕ) → List ℕ
+bytesOf zero number = []
+bytesOf (suc count) number = number % byteValues ∷ bytesOf count (number / byteValues)
+
+-- "eight a number"
+abbrev pub eightBytes : ℕ → List ℕ
+eightBytes = bytesOf numberBytes
+
+-- The answer to a file, with these tables.
+abbrev pub answerTo : (file plants segments : List ℕ) → Answer
+answerTo file plants segments = quantified file (wholeNumbers plants) (wholeNumbers segments)
+
+-- "Acceptance writes the first .. numbers; later entries stay as they were", and so do spare bytes.
+abbrev pub bytesOverwritten : (numbers table : List ℕ) → List ℕ
+bytesOverwritten numbers table = flatMap eightBytes numbers ++ drop (numberBytes * length numbers) table
+
+-- "and writes neither table"
+abbrev pub plantBytesAfter : Answer → List ℕ → List ℕ
+plantBytesAfter (refusal number place) table = table
+plantBytesAfter (accepted plants segments) table = bytesOverwritten plants table
+
+abbrev pub segmentBytesAfter : Answer → List ℕ → List ℕ
+segmentBytesAfter (refusal number place) table = table
+segmentBytesAfter (accepted plants segments) table = bytesOverwritten segments table

@@ -1,0 +1,246 @@
+-- The call, step by step: what reading, the lines and the settling come to is the answer of the definitions.
+use Prim.Native.Nat.{ℕ, suc, _-_, _*_, _≤_}
+use mathlib.Core.Path.{_≡_, refl, sym, ap, _∙_}
+use mathlib.Core.Bool.{Bool, true, false, cond, true≢false}
+use mathlib.Core.List.{List, [], _∷_, _++_, map}
+use native.Mathlib.Nat.{le-trans}
+use native.Mathlib.Omega.{arith}
+use lib.ListN.{length, length-append, length-map, take, replicate}
+use lib.Seq.{take-append-seam}
+use Rattle.records.specs.declared.answer.Answer.{Answer as Told}
+use Rattle.records.specs.declared.line.Line.{Line}
+use Rattle.records.specs.declared.plant.Plant.{Plant}
+use Rattle.records.specs.declared.reading.Reading.{Reading}
+use Rattle.records.specs.declared.segment.Segment.{Segment}
+use Rattle.records.specs.Plants.{mostPlants, noPlant}
+use Rattle.records.specs.Segments.{mostSegments, noSegment}
+use Rattle.records.specs.Lines.{mostLines, noLine}
+use Rattle.records.specs.Run.{Run}
+use Rattle.records.specs.Fields.{Read, read, refused}
+use Rattle.records.specs.Periods.{Period, periodFile}
+use Rattle.records.specs.Within.{Each, PlantWithin, SegmentWithin, LineWithin, Within}
+use Rattle.records.specs.Answers.{Verdict, accepts, refuses, said}
+use Rattle.records.specs.Held.{verdictOf as verdictOfReading, recordsOf, filled, Held}
+use Rattle.records.proofs.Within.{read-within}
+use Rattle.period.specs.declared.call.Quantified.{Quantified}
+use Rattle.period.specs.declared.emissions.Emissions.{Emissions}
+use Rattle.period.specs.Walk.{Standing, starting, turns, arrived}
+use Rattle.period.specs.Accounts.{Account, account}
+use Rattle.period.specs.Rows.{plantRows, segmentRows}
+use Rattle.period.specs.Order.{Answer, refusal, accepted, Test, tested, lineTests, segmentTests, plantNumbers, segmentNumbers, tableTests}
+use Rattle.period.specs.Quantified.{started, accountsOf, rows, judged, afterReading, quantified}
+use Rattle.period.specs.Written.{verdictOf, plantsAfter, segmentsAfter, plantsWritten, segmentsWritten, Answers}
+use Rattle.period.specs.Inside.{Passes, Small, AddedUp, KgOf, Finished, periodOf, settled, Settled, nothing}
+use Rattle.period.proofs.Accounting.{each-on}
+use Rattle.period.proofs.Walks.{arrived-length, turns-length}
+
+-- what the call promises, of what it hands back and of the tables before and after
+abbrev Answered : Quantified → Answer → (plants plants' segments segments' : List ℕ) → Type 0
+Answered r answer plants plants' segments segments' =
+    Answers r answer × ((plants' ≡ plantsAfter answer plants) × (segments' ≡ segmentsAfter answer segments))
+
+-- ---- a refusal writes nothing
+refused-answer :
+    (told : Told) (answer : Answer) (plants plants' segments segments' : List ℕ) → (said told ≡ accepts → ⊥) →
+    Finished answer (said told) plants plants' segments segments' → Answered (nothing told) answer plants plants' segments segments'
+refused-answer told (refusal number place) plants plants' segments segments' not finished =
+    (record { verdict = finished .0; plants = refl; segments = refl }, (finished .1, finished .2))
+refused-answer told (accepted rows' rows'') plants plants' segments segments' not finished = absurd (not (finished .0))
+
+-- ---- acceptance writes the rows
+refused-not-accepting : {number place : ℕ} → refuses number place ≡ accepts → ⊥
+refused-not-accepting e = true≢false (ap is-refusal e)
+  where
+    is-refusal : Verdict → Bool
+    is-refusal accepts = false
+    is-refusal (refuses number place) = true
+
+-- tests that accept leave the answer as it is
+accepted-tested :
+    (tests : List Test) (plants segments : List ℕ) → accepts ≡ verdictOf (tested tests (accepted plants segments)) →
+    tested tests (accepted plants segments) ≡ accepted plants segments
+unfolding tested
+accepted-tested [] plants segments e = refl
+accepted-tested (test ∷ tests) plants segments e = by-test (test .fails) (accepted-tested tests plants segments) e
+  where
+    by-test :
+        (b : Bool) → (accepts ≡ verdictOf (tested tests (accepted plants segments)) → tested tests (accepted plants segments) ≡ accepted plants segments) →
+        accepts ≡ verdictOf (cond b (refusal (test .number) (test .place)) (tested tests (accepted plants segments))) →
+        cond b (refusal (test .number) (test .place)) (tested tests (accepted plants segments)) ≡ accepted plants segments
+    by-test true then e' = absurd (refused-not-accepting (sym e'))
+    by-test false then e' = then e'
+
+plant-rows-long :
+    (lines : List Line) (accounts : List Account) (index : ℕ) (plants : List Plant) (end : List Standing) → length end ≡ length plants →
+    length (plantRows lines accounts index plants end) ≡ plantNumbers * length plants
+unfolding plantRows
+plant-rows-long lines accounts index [] end same = refl
+plant-rows-long lines accounts index (plant ∷ plants) [] same = absurd (omega (arith, same))
+plant-rows-long lines accounts index (plant ∷ plants) (standing ∷ end) same =
+    let others = plant-rows-long lines accounts (suc index) plants end (omega (arith, same)) in omega (arith, others)
+
+segment-rows-long : (accounts : List Account) → length (segmentRows accounts) ≡ segmentNumbers * length accounts
+unfolding segmentRows
+segment-rows-long [] = refl
+segment-rows-long (a ∷ accounts) = omega (arith, segment-rows-long accounts)
+
+accepted-answer :
+    (period : Period) (told : Told) (plantTable plantTable' segmentTable segmentTable' : List ℕ) → said told ≡ accepts →
+    Finished (settled period (length plantTable) (length segmentTable)) (said told) plantTable plantTable' segmentTable segmentTable' →
+    Answered
+    (record { answer = told; «plant_numbers» = plantNumbers * length (period .plants); «segment_numbers» = segmentNumbers * length (period .segments) })
+    (settled period (length plantTable) (length segmentTable)) plantTable plantTable' segmentTable segmentTable'
+unfolding rows accountsOf
+accepted-answer period told plantTable plantTable' segmentTable segmentTable' accepting finished =
+    let accounts = map (account (period .lines)) (turns 1 (period .segments) (started period)) in
+    let plants = plantRows (period .lines) accounts 0 (period .plants) (arrived 1 (period .segments) (started period)) in
+    let is : settled period (length plantTable) (length segmentTable) ≡ accepted plants (segmentRows accounts) =
+    accepted-tested (segmentTests accounts ++ tableTests (length (period .plants)) (length (period .segments)) (length plantTable) (length segmentTable))
+    plants (segmentRows accounts) (sym accepting ∙ finished .0) in (
+      record {
+        verdict = finished .0;
+        plants = sym (ap plantsWritten is
+            ∙ plant-rows-long (period .lines) accounts 0 (period .plants) (arrived 1 (period .segments) (started period))
+            (arrived-length 1 (period .segments) (started period) ∙ length-map (period .plants) starting));
+        segments = sym (ap segmentsWritten is ∙ segment-rows-long accounts
+            ∙ ap (λ (n : ℕ). segmentNumbers * n) (length-map (turns 1 (period .segments) (started period)) (account (period .lines)) ∙ turns-length 1 (period .segments) (started period)));
+      },
+      (finished .1, finished .2),
+    )
+
+-- ---- the records at the front of their arrays
+front-is : {A : Type 0} (none : A) (room count : ℕ) (held array : List A) → count ≡ length held → array ≡ filled none room held → take count array ≡ held
+unfolding filled
+front-is none room count held array counted is = rw (counted, is) (take-append-seam held (replicate (room - length held) none))
+
+-- ---- a file whose reading is held
+module _ (file : List ℕ) (r : Reading) (held : Held r (periodFile file)) where
+  -- refused by reading
+  pub reading-refused :
+      (plantTable segmentTable : List ℕ) → (said (r .answer) ≡ accepts → ⊥) →
+      Answered (nothing (r .answer)) (quantified file (length plantTable) (length segmentTable)) plantTable plantTable segmentTable segmentTable
+  unfolding quantified
+  reading-refused plantTable segmentTable not =
+      refused-answer (r .answer) (afterReading (periodFile file) (length plantTable) (length segmentTable)) plantTable plantTable segmentTable segmentTable not
+      (by-outcome (periodFile file) (held .answer))
+    where
+      by-outcome :
+          (outcome : Read Period) → said (r .answer) ≡ verdictOfReading outcome →
+          Finished (afterReading outcome (length plantTable) (length segmentTable)) (said (r .answer)) plantTable plantTable segmentTable segmentTable
+      by-outcome (read period place rest) e = absurd (not e)
+      by-outcome (refused number place) e = (e, refl, refl)
+
+  -- read to its end
+  module _ (accepting : said (r .answer) ≡ accepts) where
+    abbrev period : Period
+    period = recordsOf (periodFile file)
+
+    read-whole : (plantTable segmentTable : ℕ) → quantified file plantTable segmentTable ≡ judged period (accountsOf period) plantTable segmentTable
+    unfolding quantified
+    read-whole plantTable segmentTable = by-outcome (periodFile file) (sym accepting ∙ held .answer)
+      where
+        by-outcome :
+            (outcome : Read Period) → accepts ≡ verdictOfReading outcome →
+            afterReading outcome plantTable segmentTable ≡ judged (recordsOf outcome) (accountsOf (recordsOf outcome)) plantTable segmentTable
+        by-outcome (read period place rest) e = refl
+        by-outcome (refused number place) e = absurd (refused-not-accepting (sym e))
+
+    within : Within period
+    within = by-outcome (periodFile file) refl (sym accepting ∙ held .answer)
+      where
+        by-outcome : (outcome : Read Period) → periodFile file ≡ outcome → accepts ≡ verdictOfReading outcome → Within (recordsOf outcome)
+        by-outcome (read period place rest) is e = read-within file period place rest is
+        by-outcome (refused number place) is e = absurd (refused-not-accepting (sym e))
+
+    plants-front : take (r .«plant_count») (r .plants) ≡ period .plants
+    plants-front = front-is noPlant mostPlants (r .«plant_count») (period .plants) (r .plants) (held .plant-count) (held .plants)
+
+    segments-front : take (r .«segment_count») (r .segments) ≡ period .segments
+    segments-front = front-is noSegment mostSegments (r .«segment_count») (period .segments) (r .segments) (held .segment-count) (held .segments)
+
+    lines-front : take (r .«line_count») (r .lines) ≡ period .lines
+    lines-front = front-is noLine mostLines (r .«line_count») (period .lines) (r .lines) (held .line-count) (held .lines)
+
+    -- ---- the lines
+    pub lines-fit : (r .«line_count» ≤ mostLines) × Each (LineWithin mostPlants mostSegments) 1 (take (r .«line_count») (r .lines))
+    lines-fit = (
+      rw (held .line-count) (within .most-lines),
+      rw lines-front (each-on (λ own line w. record {
+        owner-kind = w .owner-kind;
+        some-owner = w .some-owner;
+        plant = λ e. le-trans (w .plant e) (within .most-plants);
+        segment = λ e. le-trans (w .segment e) (within .most-segments);
+        quantity = w .quantity;
+        factor = w .factor;
+      }) 1 (period .lines) (within .lines)),
+    )
+
+    module _ (emitted : Emissions) (added : AddedUp emitted (take (r .«line_count») (r .lines))) where
+      of-lines : AddedUp emitted (period .lines)
+      of-lines = rw lines-front at added
+
+      pub lines-refused :
+          (plantTable segmentTable : List ℕ) → (said (emitted .answer) ≡ accepts → ⊥) →
+          Answered (nothing (emitted .answer)) (quantified file (length plantTable) (length segmentTable)) plantTable plantTable segmentTable segmentTable
+      unfolding judged
+      lines-refused plantTable segmentTable not =
+          refused-answer (emitted .answer) (quantified file (length plantTable) (length segmentTable)) plantTable plantTable segmentTable segmentTable not
+          (rw (read-whole (length plantTable) (length segmentTable)) (by-verdict (said (emitted .answer)) not (of-lines .tests)))
+        where
+          rest : List Test
+          rest = segmentTests (accountsOf period) ++ tableTests (length (period .plants)) (length (period .segments)) (length plantTable) (length segmentTable)
+
+          by-verdict :
+              (verdict : Verdict) → (verdict ≡ accepts → ⊥) → Passes verdict (lineTests (period .lines) 0 (period .lines)) →
+              Finished (judged period (accountsOf period) (length plantTable) (length segmentTable)) verdict plantTable plantTable segmentTable segmentTable
+          by-verdict accepts no-accept fails = absurd (no-accept refl)
+          by-verdict (refuses number place) no-accept fails = rw (fails rest (rows period (accountsOf period))) (refl, refl, refl)
+
+      -- ---- the segments and the tables
+      module _ (passing : said (emitted .answer) ≡ accepts) where
+        lines-pass : (plantTable segmentTable : ℕ) → quantified file plantTable segmentTable ≡ settled period plantTable segmentTable
+        unfolding judged
+        lines-pass plantTable segmentTable =
+            read-whole plantTable segmentTable
+            ∙ (rw passing at (of-lines .tests))
+            (segmentTests (accountsOf period) ++ tableTests (length (period .plants)) (length (period .segments)) plantTable segmentTable)
+            (rows period (accountsOf period))
+
+        pub settle-fits :
+            (r .«plant_count» ≤ mostPlants)
+            × ((r .«segment_count» ≤ mostSegments)
+            × (Each (PlantWithin (r .«segment_count»)) 1 (take (r .«plant_count») (r .plants))
+            × (Each (SegmentWithin (r .«segment_count»)) 1 (take (r .«segment_count») (r .segments)) × Small (emitted .kg))))
+        settle-fits = (
+          rw (held .plant-count) (within .most-plants),
+          (
+            rw (held .segment-count) (within .most-segments),
+            (rw (plants-front, held .segment-count) (within .plants), (rw (segments-front, held .segment-count) (within .segments), added .small)),
+          ),
+        )
+
+        module _
+            (told : Told) (plantTable plantTable' segmentTable segmentTable' : List ℕ)
+            (settles :
+            Settled (take (r .«plant_count») (r .plants)) (take (r .«segment_count») (r .segments)) (emitted .kg) (said told)
+            plantTable plantTable' segmentTable segmentTable') where
+          finished : Finished (quantified file (length plantTable) (length segmentTable)) (said told) plantTable plantTable' segmentTable segmentTable'
+          finished =
+              rw (lines-pass (length plantTable) (length segmentTable))
+              (rw (plants-front, segments-front) at (settles (period .lines) (of-lines .kg passing)))
+
+          pub settling-refused :
+              (said told ≡ accepts → ⊥) →
+              Answered (nothing told) (quantified file (length plantTable) (length segmentTable)) plantTable plantTable' segmentTable segmentTable'
+          settling-refused not =
+              refused-answer told (quantified file (length plantTable) (length segmentTable)) plantTable plantTable' segmentTable segmentTable' not finished
+
+          pub settling-accepted :
+              said told ≡ accepts →
+              Answered
+              (record { answer = told; «plant_numbers» = plantNumbers * r .«plant_count»; «segment_numbers» = segmentNumbers * r .«segment_count» })
+              (quantified file (length plantTable) (length segmentTable)) plantTable plantTable' segmentTable segmentTable'
+          settling-accepted is =
+              rw (held .plant-count, held .segment-count, lines-pass (length plantTable) (length segmentTable))
+              (accepted-answer period told plantTable plantTable' segmentTable segmentTable' is
+              (rw (lines-pass (length plantTable) (length segmentTable)) at finished))

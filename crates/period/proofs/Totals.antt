@@ -1,0 +1,197 @@
+-- The owners' totals: the loop that adds up the lines, with one law for its start, each way through a turn, and its end.
+use Prim.Native.Nat.{ℕ, zero, suc, _+_, _-_, _*_, _≤_, _<_}
+use mathlib.Core.Path.{_≡_, refl, sym, ap, _∙_}
+use mathlib.Core.Bool.{cond}
+use mathlib.Core.List.{List, [], _∷_, _++_, map}
+use native.Mathlib.Nat.{mul-le-mul, div-mul-le-self}
+use native.Mathlib.Decide.{decLe, ℕ-discrete}
+use native.Mathlib.Numerals.{add-one}
+use native.Mathlib.Omega.{arith}
+use lib.Dec.{ltb, eqb}
+use lib.ListN.{length, take, drop, getD, set, replicate, length-set, drop-of-length-le, List·getD-map}
+use lib.Seq.{take-all, take-suc, drop-cons, getD-set-same, getD-set-other}
+use borrow.Author.Tests.{lt-ltb, le-ltb, eq-eqb, ne-eqb}
+use Rattle.number.specs.Groups.{largest}
+use Rattle.records.specs.declared.answer.Answer.the-variants.{Accepted, Grams}
+use Rattle.records.specs.declared.line.Line.{Line}
+use Rattle.records.specs.Plants.{mostPlants}
+use Rattle.records.specs.Segments.{mostSegments}
+use Rattle.records.specs.Classes.{plantOwner, segmentOwner}
+use Rattle.records.specs.Lines.{largestFactor, noLine}
+use Rattle.records.specs.Refusals.{tooManyGrams}
+use Rattle.records.specs.Within.{Each, LineWithin}
+use Rattle.records.proofs.Within.{each-at}
+use Rattle.period.specs.Emissions.{mostGrams, grams, ownedBy, gramsOf, gramsInKg, inKg, emission}
+use Rattle.period.specs.Order.{Answer, refusal, Test, tested, lineTests}
+use Rattle.period.specs.Inside.{ownerPlace, FewGrams, AddedUp}
+
+-- the places for plants and for segments
+abbrev pub owners : ℕ
+owners = mostPlants + mostSegments
+
+-- ---- an owner that a line may have, and the place of its total
+-- the most owners of a kind are the most plants for plants, and so many more for segments that they are the most segments
+pub record Owner (ownerKind owner place : ℕ) : Type 0 where
+  pub kind : ownerKind ≤ segmentOwner
+  pub some : 1 ≤ owner
+  pub most : owner ≤ mostPlants + (mostSegments - mostPlants) * ownerKind
+  pub place-is : place ≡ ownerPlace ownerKind owner
+
+-- its place is one of those for owners
+pub place-below : {ownerKind owner place : ℕ} → Owner ownerKind owner place → place < owners
+place-below o = omega arith
+
+-- a line is this owner's where the owner of the line has the same place
+owned :
+    {ownerKind owner place place' : ℕ} (line : Line) → Owner (line .«owner_kind») (line .owner) place → Owner ownerKind owner place' →
+    ownedBy ownerKind owner line ≡ eqb place' place
+owned {ownerKind} {owner} {place} {place'} line o o' = by-owner (ℕ-discrete (line .«owner_kind») ownerKind) (ℕ-discrete (line .owner) owner)
+  where
+    by-owner : Dec (line .«owner_kind» ≡ ownerKind) → Dec (line .owner ≡ owner) → ownedBy ownerKind owner line ≡ eqb place' place
+    by-owner (yes p) (yes q) = rw (eq-eqb (line .«owner_kind») ownerKind p, eq-eqb (line .owner) owner q, eq-eqb place' place (omega arith))
+    by-owner (yes p) (no q) = rw (eq-eqb (line .«owner_kind») ownerKind p, ne-eqb (line .owner) owner q, ne-eqb place' place (λ e. q (omega arith)))
+    by-owner (no p) q = rw (ne-eqb (line .«owner_kind») ownerKind p, ne-eqb place' place (λ e. p (omega arith)))
+
+-- ---- a line within its limits
+-- the limits do not go by its number
+any-number : {plants segments own : ℕ} {line : Line} → LineWithin plants segments own line → LineWithin plants segments 1 line
+any-number within = search
+
+pub line-within :
+    (lines : List Line) (l : ℕ) → l < length lines → Each (LineWithin mostPlants mostSegments) 1 lines → LineWithin mostPlants mostSegments 1 (getD lines l noLine)
+line-within lines l more all = any-number (each-at (LineWithin mostPlants mostSegments) 1 lines l noLine (1 + l) refl more all)
+
+-- its owner, and the place
+pub line-owner :
+    {own place : ℕ} {line : Line} → LineWithin mostPlants mostSegments own line → place ≡ ownerPlace (line .«owner_kind») (line .owner) →
+    Owner (line .«owner_kind») (line .owner) place
+line-owner {own} {place} {line} within is = by-kind (decLe (line .«owner_kind») plantOwner)
+  where
+    by-kind : Dec (line .«owner_kind» ≤ plantOwner) → Owner (line .«owner_kind») (line .owner) place
+    by-kind (yes p) = let most : line .owner ≤ mostPlants = within .plant (omega arith) in omega arith
+    by-kind (no p) = let most : line .owner ≤ mostSegments = within .segment (omega arith) in omega arith
+
+-- its grams
+pub line-grams : {plants segments own : ℕ} {line : Line} → LineWithin plants segments own line → grams line ≤ largest * largestFactor
+line-grams within = mul-le-mul (within .quantity) (within .factor)
+
+-- ---- totals
+-- an owner's total with one more line
+grams-after :
+    (ownerKind owner : ℕ) (lines : List Line) (line : Line) →
+    gramsOf ownerKind owner (lines ++ (line ∷ [])) ≡ gramsOf ownerKind owner lines + cond (ownedBy ownerKind owner line) (grams line) 0
+unfolding gramsOf
+grams-after ownerKind owner [] line = omega arith
+grams-after ownerKind owner (first ∷ lines) line = omega (arith, grams-after ownerKind owner lines line)
+
+-- totals before any line
+none : (count o : ℕ) → _≡_ {A = ℕ} (getD (replicate count 0) o 0) 0
+none zero o = refl
+none (suc count) zero = refl
+none (suc count) (suc o) = none count o
+
+-- a total that does not pass the limit is no more kg than a number may be
+few-kg : (total : ℕ) → total ≤ mostGrams → inKg total ≤ largest
+few-kg total few = omega (arith, div-mul-le-self (total + (gramsInKg - 1)) gramsInKg)
+
+-- ---- the loop: so many lines are added up, owner by owner, and passed their tests
+pub record Adding (lines : List Line) (totals : List ℕ) (l : ℕ) : Type 0 where
+  pub places : length totals ≡ owners
+  pub few : FewGrams totals
+  pub total : (ownerKind owner place : ℕ) → Owner ownerKind owner place → getD totals place 0 ≡ gramsOf ownerKind owner (take l lines)
+  pub passed :
+      (rest : List Test) (answer : Answer) → tested (lineTests lines 0 lines ++ rest) answer ≡ tested (lineTests lines l (drop l lines) ++ rest) answer
+
+-- the line of a turn, and the place of its owner's total
+pub record Next (lines : List Line) (l : ℕ) (line : Line) (place : ℕ) : Type 0 where
+  pub more : l < length lines
+  pub line-is : getD lines l noLine ≡ line
+  pub owner : Owner (line .«owner_kind») (line .owner) place
+
+-- no line is added up yet
+pub adding-start : (lines : List Line) → Adding lines (replicate owners 0) 0
+unfolding gramsOf
+adding-start lines = record {
+  places = refl;
+  few = λ o. rw (none owners o) (omega arith);
+  total = λ ownerKind owner place o. none owners place;
+  passed = λ rest answer. refl;
+}
+
+module _ {lines : List Line} {totals : List ℕ} {l : ℕ} {line : Line} {place : ℕ} (a : Adding lines totals l) (next : Next lines l line place) where
+  -- the total of the line's owner, with this line
+  abbrev line-total : ℕ
+  line-total = getD totals place 0 + grams line
+
+  -- an owner's total, with this line
+  total-after :
+      (ownerKind owner place' : ℕ) → Owner ownerKind owner place' →
+      gramsOf ownerKind owner (take (suc l) lines) ≡ getD totals place' 0 + cond (eqb place' place) (grams line) 0
+  total-after ownerKind owner place' o =
+      ap (gramsOf ownerKind owner) (take-suc lines l noLine (next .more))
+      ∙ grams-after ownerKind owner (take l lines) (getD lines l noLine)
+      ∙ rw (next .line-is, owned line (next .owner) o, a .total ownerKind owner place' o)
+
+  -- that total is what the line's test looks at
+  line-tested :
+      (rest : List Test) (answer : Answer) →
+      tested (lineTests lines 0 lines ++ rest) answer
+      ≡ cond (ltb mostGrams line-total) (refusal tooManyGrams (suc l)) (tested (lineTests lines (suc l) (drop (suc l) lines) ++ rest) answer)
+  unfolding tested lineTests
+  line-tested rest answer =
+      a .passed rest answer
+      ∙ rw (drop-cons lines l noLine (next .more), next .line-is, total-after (line .«owner_kind») (line .owner) place (next .owner), eq-eqb place place refl)
+
+  -- when it is written at its place, what holds of it there and of the other totals at theirs holds everywhere
+  written :
+      (P : ℕ → ℕ → Type 0) → P place line-total → ((place' : ℕ) → (place' ≡ place → ⊥) → P place' (getD totals place' 0)) →
+      (place' : ℕ) → P place' (getD (set totals place line-total) place' 0)
+  written P here others place' = by-place (ℕ-discrete place' place)
+    where
+      by-place : Dec (place' ≡ place) → P place' (getD (set totals place line-total) place' 0)
+      by-place (yes p) = rw (p, getD-set-same totals place line-total 0 (rw (a .places) (place-below (next .owner)))) here
+      by-place (no p) = rw (getD-set-other totals place place' line-total 0 p) (others place' p)
+
+  -- so each owner's place has its total with this line
+  written-total : (place' : ℕ) → getD (set totals place line-total) place' 0 ≡ getD totals place' 0 + cond (eqb place' place) (grams line) 0
+  written-total =
+      written
+      (λ (place' total : ℕ). total ≡ getD totals place' 0 + cond (eqb place' place) (grams line) 0)
+      (rw (eq-eqb place place refl))
+      (λ place' p. rw (ne-eqb place' place p) (omega arith))
+
+  -- the line passes its test
+  pub adding-on : line-total ≤ mostGrams → Adding lines (set totals place line-total) (l + 1)
+  adding-on few = rw (add-one l) (record {
+    places = length-set totals place line-total ∙ a .places;
+    few = written (λ (place' total : ℕ). total ≤ mostGrams) few (λ place' p. a .few place');
+    total = λ ownerKind owner place' o. written-total place' ∙ sym (total-after ownerKind owner place' o);
+    passed = λ rest answer. line-tested rest answer ∙ rw (le-ltb mostGrams line-total few);
+  })
+
+  -- the line fails its test
+  pub adding-refused : mostGrams < line-total → AddedUp (record { answer = Grams (l + 1); kg = replicate owners 0 }) lines
+  adding-refused many = record {
+    tests = λ rest answer. line-tested rest answer ∙ rw (lt-ltb mostGrams line-total many, add-one l);
+    kg = λ is. let clash : _≡_ {A = ℕ} 0 1 = cc in absurd (omega arith);
+    small = λ o. rw (none owners o) (omega arith);
+  }
+
+-- no line is left
+pub adding-end :
+    {lines : List Line} {totals : List ℕ} {l : ℕ} → Adding lines totals l → length lines ≤ l →
+    AddedUp (record { answer = Accepted; kg = map inKg totals }) lines
+unfolding emission tested lineTests
+adding-end {lines} {totals} {l} a all = record {
+  tests = λ rest answer. a .passed rest answer ∙ rw (drop-of-length-le lines all);
+  kg = λ is. record {
+    plants = λ p h. in-kg plantOwner (suc p) p (omega arith);
+    segments = λ s h. in-kg segmentOwner (suc s) (mostPlants + s) (omega arith);
+  };
+  small = λ o. rw (List·getD-map inKg totals o 0) (few-kg (getD totals o 0) (a .few o));
+}
+  where
+    in-kg : (ownerKind owner place : ℕ) → Owner ownerKind owner place → getD (map inKg totals) place 0 ≡ emission ownerKind owner lines
+    in-kg ownerKind owner place o =
+        List·getD-map inKg totals place 0
+        ∙ ap inKg (a .total ownerKind owner place o ∙ ap (gramsOf ownerKind owner) (take-all l lines all))

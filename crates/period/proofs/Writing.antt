@@ -1,0 +1,72 @@
+-- Writing rows of one length into a table, one after another; and how large a segment's charge can be.
+use Prim.Native.Nat.{ℕ, zero, suc, _+_, _-_, _*_, _^_, _≤_, _<_, zero-le}
+use mathlib.Core.Path.{_≡_, sym, ap, _∙_}
+use mathlib.Core.List.{List, [], _++_}
+use native.Mathlib.Nat.{div-zero, div-lt-iff-lt-mul, le-trans, mul-le-mul, mul-le-mul-left, mul-le-mul-right, mul-zero, zero-lt-suc}
+use native.Mathlib.Numerals.{add-one}
+use native.Mathlib.Omega.{arith}
+use lib.ListN.{length, take, drop, length-append}
+use lib.Seq.{take-at, drop-at, drop-drop, length-front, length-take-le}
+use Rattle.number.specs.Groups.{largest}
+use Rattle.period.specs.Emissions.{roundedUp}
+
+-- ---- rows of n numbers, one behind another
+module _ (n : ℕ) (rows : ℕ → List ℕ) (count : ℕ) (entry : List ℕ) where
+  -- k of so many rows are written, and behind them the table is as it was
+  pub record Writing (table : List ℕ) (k : ℕ) : Type 0 where
+    pub enough : n * count ≤ length entry
+    pub within : k ≤ count
+    pub sized : length (rows k) ≡ n * k
+    pub so-far : table ≡ rows k ++ drop (n * k) entry
+
+  -- none is written
+  pub writing-start : n * count ≤ length entry → rows 0 ≡ [] → Writing entry 0
+  writing-start enough none =
+      record { enough = enough; within = omega arith; sized = rw (none, mul-zero); so-far = rw (none, mul-zero) }
+
+module _ {n : ℕ} {rows : ℕ → List ℕ} {count : ℕ} {entry table : List ℕ} {k : ℕ} (w : Writing n rows count entry table k) where
+  -- the table stays as long as it was
+  pub writing-length : length table ≡ length entry
+  writing-length =
+      let done : n * k ≤ length entry = omega (arith, mul-le-mul-left n (w .within)) in
+      ap length (w .so-far) ∙ length-front entry (rows k) (n * k) (w .sized ∙ sym (length-take-le (n * k) entry done))
+
+  -- there is room for one more row
+  pub writing-room : k < count → n * k + n ≤ length table
+  writing-room more = omega (arith, mul-le-mul-left n more, writing-length)
+
+  -- one more row is written
+  pub writing-on :
+      k < count → (row table' : List ℕ) → length row ≡ n → rows (suc k) ≡ rows k ++ row →
+      table' ≡ take (n * k) table ++ row ++ drop (n * k + n) table → Writing n rows count entry table' (k + 1)
+  writing-on more row table' long next written =
+      let one-more : n * suc k ≡ n * k + n = omega arith in
+      let before : take (n * k) table ≡ rows k = rw (w .so-far) (take-at (rows k) (drop (n * k) entry) (n * k) (w .sized)) in
+      let behind : drop (n * k) table ≡ drop (n * k) entry = rw (w .so-far) (drop-at (rows k) (drop (n * k) entry) (n * k) (w .sized)) in
+      rw add-one (record {
+        enough = w .enough;
+        within = more;
+        sized = rw (next, length-append, long, w .sized, one-more);
+        so-far = rw (next, one-more, ← drop-drop n (n * k) entry, ← behind, ← before, drop-drop) written;
+      })
+
+  -- all are written
+  pub writing-end : count ≤ k → table ≡ rows count ++ drop (n * count) entry
+  writing-end all = let here : k ≡ count = omega arith in rw here at (w .so-far)
+
+-- ---- what a segment charges for an amount that is not over its inflow
+module _ {amount inflow emission : ℕ} (h : (amount ≤ inflow) × (inflow ≤ largest) × (emission ≤ largest)) where
+  -- its product, as rounding up takes it, fits the numbers of the machine
+  pub charge-fits : amount * emission + (inflow - 1) < 2 ^ 64
+  charge-fits = omega (arith, mul-le-mul (le-trans (h .0) (h .1)) (h .2))
+
+  -- it is not over the segment's emission
+  pub charge-at-most : roundedUp (amount * emission) inflow ≤ emission
+  charge-at-most = by-inflow inflow (h .0)
+    where
+      by-inflow : (i : ℕ) → amount ≤ i → roundedUp (amount * emission) i ≤ emission
+      by-inflow zero none = rw div-zero zero-le
+      by-inflow (suc i) some =
+          let product : amount * emission ≤ suc i * emission = mul-le-mul-right emission some in
+          let less : roundedUp (amount * emission) (suc i) < suc emission = div-lt-iff-lt-mul (zero-lt-suc i) .1 (omega arith) in
+          omega arith

@@ -1,0 +1,41 @@
+-- What the call answers and leaves in the two tables, by the answer of the definitions.
+use Prim.Native.Nat.{ℕ}
+use mathlib.Core.Path.{_≡_}
+use mathlib.Core.List.{List, _++_}
+use lib.ListN.{length, drop}
+use Rattle.records.specs.Answers.{Verdict, accepts, refuses, said}
+use Rattle.period.specs.declared.call.Quantified.{Quantified}
+use Rattle.period.specs.Order.{Answer, refusal, accepted}
+
+-- "A refusal gives number and place"
+abbrev pub verdictOf : Answer → Verdict
+verdictOf (refusal number place) = refuses number place
+verdictOf (accepted plants segments) = accepts
+
+-- "Acceptance writes the first .. numbers; later entries stay as they were."
+abbrev pub overwritten : List ℕ → List ℕ → List ℕ
+overwritten numbers table = numbers ++ drop (length numbers) table
+
+-- "and writes neither table"
+abbrev pub plantsAfter : Answer → List ℕ → List ℕ
+plantsAfter (refusal number place) table = table
+plantsAfter (accepted plants segments) table = overwritten plants table
+
+abbrev pub segmentsAfter : Answer → List ℕ → List ℕ
+segmentsAfter (refusal number place) table = table
+segmentsAfter (accepted plants segments) table = overwritten segments table
+
+-- How many numbers of each table are written.
+abbrev pub plantsWritten : Answer → ℕ
+plantsWritten (refusal number place) = 0
+plantsWritten (accepted plants segments) = length plants
+
+abbrev pub segmentsWritten : Answer → ℕ
+segmentsWritten (refusal number place) = 0
+segmentsWritten (accepted plants segments) = length segments
+
+-- What the call hands back.
+pub record Answers (r : Quantified) (answer : Answer) : Type 0 where
+  pub verdict : said (r .answer) ≡ verdictOf answer
+  pub plants : r .«plant_numbers» ≡ plantsWritten answer
+  pub segments : r .«segment_numbers» ≡ segmentsWritten answer

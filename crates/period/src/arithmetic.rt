@@ -1,0 +1,24 @@
+// The arithmetic of whole numbers that the equations use. Division by 0 gives 0.
+ghost use mathlib.Core.Path.{_≡_};
+ghost use Prim.Native.Nat.{_+_, _-_, _/_, _^_, _<_};
+ghost use Rattle.period.specs.Emissions.{roundedUp};
+
+pub(crate) fn rounded_down(n: u64, d: u64) -> u64
+    ensures { λ r. ⌜ r ≡ n / d ⌝ }
+{
+    if d == 0 { 0 } else { n / d }
+}
+
+pub(crate) fn rounded_up(n: u64, d: u64) -> u64
+    requires { ⌜ n + (d - 1) < 2 ^ 64 ⌝ }
+    ensures { λ r. ⌜ r ≡ roundedUp n d ⌝ }
+{
+    if d == 0 { 0 } else { (n + (d - 1)) / d }
+}
+
+// m − n, "or 0 if" n "is larger".
+pub(crate) fn excess(m: u64, n: u64) -> u64
+    ensures { λ r. ⌜ r ≡ m - n ⌝ }
+{
+    if m < n { 0 } else { m - n }
+}

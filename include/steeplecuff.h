@@ -1,0 +1,129 @@
+/*
+ * Steeplecuff: the removal units of the capture plants of one certification period.
+ *
+ * One call takes a period file and fills two tables: a row for each plant and a row for each segment. Or it refuses the
+ * file, and says why and where. The scope paper has the rules; this header says how a C or C++ program asks for them.
+ * Link with the archive for x86-64 that `rt staticlib historian` builds.
+ */
+#ifndef STEEPLECUFF_H
+#define STEEPLECUFF_H
+
+#include <stddef.h>
+#include <stdint.h>
+
+#ifdef __cplusplus
+extern "C" {
+#endif
+
+/* The row of a plant: its numbers in order. All are kg, but for the units. */
+enum steeplecuff_plant_number {
+    STEEPLECUFF_PLANT_EXPORTED,   /* what the plant sent off */
+    STEEPLECUFF_PLANT_STORED,     /* what the store credited to it */
+    STEEPLECUFF_PLANT_LOST,       /* exported - stored */
+    STEEPLECUFF_PLANT_GROSS,      /* stored x origin fraction, rounded down */
+    STEEPLECUFF_PLANT_ASSOCIATED, /* its own emissions and all its charges */
+    STEEPLECUFF_PLANT_NET,        /* gross - associated, or 0 where associated is larger */
+    STEEPLECUFF_PLANT_UNITS,      /* whole tonnes of net: the removal units */
+    STEEPLECUFF_PLANT_DEFICIT,    /* associated - gross, or 0 where gross is larger */
+    STEEPLECUFF_PLANT_NUMBERS     /* how many numbers a plant's row has: 8 */
+};
+
+/* The row of a segment: its numbers in order. All are kg, but for the set of plants. */
+enum steeplecuff_segment_number {
+    STEEPLECUFF_SEGMENT_INFLOW,   /* A: the sum of the amounts that enter */
+    STEEPLECUFF_SEGMENT_OUTFLOW,  /* D: the metered outflow */
+    STEEPLECUFF_SEGMENT_LOST,     /* A - D */
+    STEEPLECUFF_SEGMENT_EMISSION, /* E: the segment's own emissions */
+    STEEPLECUFF_SEGMENT_PLANTS,   /* the set of plants: bit p - 1 is set when plant p's route passes, even with 0 kg */
+    STEEPLECUFF_SEGMENT_NUMBERS   /* how many numbers a segment's row has: 5 */
+};
+
+/* How much there can be. Tables of these sizes suffice for every file. */
+enum steeplecuff_limit {
+    STEEPLECUFF_MOST_PLANTS = 16,
+    STEEPLECUFF_MOST_SEGMENTS = 32,
+    STEEPLECUFF_NUMBER_BYTES = 8, /* bytes of one number in a table */
+    STEEPLECUFF_MOST_PLANT_BYTES = STEEPLECUFF_MOST_PLANTS * STEEPLECUFF_PLANT_NUMBERS * STEEPLECUFF_NUMBER_BYTES,
+    STEEPLECUFF_MOST_SEGMENT_BYTES = STEEPLECUFF_MOST_SEGMENTS * STEEPLECUFF_SEGMENT_NUMBERS * STEEPLECUFF_NUMBER_BYTES
+};
+
+/*
+ * What the call answers, and what its place then counts. "number" is the number of the file at fault, counted from 0;
+ * lines and segments are counted from 1. P and S are the file's counts of plants and segments, L that of lines.
+ */
+enum steeplecuff_answer {
+    STEEPLECUFF_ACCEPTED = 0,                         /* both tables are written; the place is 0 */
+    STEEPLECUFF_REFUSED_FILE_ENDS = 1,                /* the file ends inside a number or where one is needed: number */
+    STEEPLECUFF_REFUSED_NOT_SHORTEST = 2,             /* a number is not in its shortest form: number */
+    STEEPLECUFF_REFUSED_NUMBER_OVER_LIMIT = 3,        /* a number has a sixth group or is over 4,000,000,000: number */
+    STEEPLECUFF_REFUSED_EDITION = 4,                  /* the edition is not 1: number */
+    STEEPLECUFF_REFUSED_COUNT = 5,                    /* P, S or L is outside its range: number */
+    STEEPLECUFF_REFUSED_PLANT_FIELD = 6,              /* a plant's field is outside its range: number */
+    STEEPLECUFF_REFUSED_SEGMENT_FIELD = 7,            /* a segment's kind or next segment is not allowed: number */
+    STEEPLECUFF_REFUSED_LINE_FIELD = 8,               /* a line's field is not allowed: number */
+    STEEPLECUFF_REFUSED_BYTES_AFTER = 9,              /* bytes follow the last number: the count of numbers */
+    STEEPLECUFF_REFUSED_GRAMS_OVER_LIMIT = 10,        /* an owner has over 4,000,000,000,000 g: the line that passes it */
+    STEEPLECUFF_REFUSED_INFLOW_OVER_LIMIT = 11,       /* an inflow is over 4,000,000,000 kg: segment */
+    STEEPLECUFF_REFUSED_OUTFLOW_OVER_INFLOW = 12,     /* an outflow is larger than the inflow: segment */
+    STEEPLECUFF_REFUSED_EMISSION_WITHOUT_INFLOW = 13, /* a segment has emissions and no inflow: segment */
+    STEEPLECUFF_REFUSED_PLANT_TABLE_SHORT = 14,       /* the plant table has fewer than 8P numbers: 8P */
+    STEEPLECUFF_REFUSED_SEGMENT_TABLE_SHORT = 15      /* the segment table has fewer than 5S numbers: 5S */
+};
+
+/*
+ * Works out one period. Answers one of steeplecuff_answer and sets *place: to 0 when the file is accepted, else to the
+ * place of the fault.
+ *
+ * In:   file[0 .. file_len - 1], the period file. It is only read; every content and length is answered.
+ * Out:  plants[0 .. plants_len - 1] and segments[0 .. segments_len - 1], the tables. A table is a run of numbers of eight
+ *       bytes, least significant first, at any alignment, one row after the other: field f of plant p (from 1) is number
+ *       (p - 1) * STEEPLECUFF_PLANT_NUMBERS + f. A length that is no multiple of eight counts as its whole numbers.
+ *       Acceptance writes the first 8P and 5S numbers; later numbers and spare bytes stay as they were.
+ *       A refusal leaves both tables as they were.
+ *
+ * The caller owes: no pointer is null, also where its length is 0; each is good for its length; the tables and *place
+ * overlap neither each other nor the file.
+ *
+ * The call keeps nothing from one call to the next and has no global state: threads may call it at the same time, each
+ * with tables and a place of its own, on the same file if they like.
+ */
+uint32_t steeplecuff_quantify(const uint8_t *file, size_t file_len, uint8_t *plants, size_t plants_len,
+                              uint8_t *segments, size_t segments_len, uint64_t *place);
+
+/*
+Example:
+
+    #include <inttypes.h>
+    #include <stdio.h>
+    #include "steeplecuff.h"
+
+    static uint64_t number_of(const uint8_t *table, size_t index)
+    {
+        uint64_t number = 0;
+        for (size_t byte = STEEPLECUFF_NUMBER_BYTES; byte > 0; byte--)
+            number = number << 8 | table[index * STEEPLECUFF_NUMBER_BYTES + byte - 1];
+        return number;
+    }
+
+    void print_units(const uint8_t *file, size_t file_len)
+    {
+        uint8_t plants[STEEPLECUFF_MOST_PLANT_BYTES], segments[STEEPLECUFF_MOST_SEGMENT_BYTES];
+        uint64_t place;
+        uint32_t refusal =
+            steeplecuff_quantify(file, file_len, plants, sizeof plants, segments, sizeof segments, &place);
+        if (refusal != STEEPLECUFF_ACCEPTED) {
+            printf("refused: %" PRIu32 " at %" PRIu64 "\n", refusal, place);
+            return;
+        }
+        size_t count = file[1]; // P, the second number: in an accepted file it is the second byte, and S the third
+        for (size_t plant = 0; plant < count; plant++)
+            printf("plant %zu: %" PRIu64 " units\n", plant + 1,
+                   number_of(plants, plant * STEEPLECUFF_PLANT_NUMBERS + STEEPLECUFF_PLANT_UNITS));
+    }
+*/
+
+#ifdef __cplusplus
+}
+#endif
+
+#endif

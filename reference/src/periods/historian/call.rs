@@ -1,0 +1,138 @@
+//! The call of the historian, put as the lengths of the file and of both tables, then the file.
+
+use super::returned::Returned;
+use crate::frames::{first_length, split, write_length};
+use crate::periods::accounts::Tables;
+use crate::periods::case::PeriodCase;
+use crate::questions::{hex, Question};
+
+/// Bytes of a number in the historian's tables.
+pub const NUMBER_BYTES: usize = 8;
+
+/// How many bytes the two tables of the historian have.
+#[derive(Clone, Copy, Debug, PartialEq, Eq)]
+pub struct TableBytes {
+    pub plant: usize,
+    pub segment: usize,
+}
+
+impl TableBytes {
+    /// The bytes of as many numbers and no spare ones.
+    pub fn of(tables: Tables) -> Self {
+        TableBytes {
+            plant: tables.plant * NUMBER_BYTES,
+            segment: tables.segment * NUMBER_BYTES,
+        }
+    }
+
+    /// How many whole numbers the bytes hold.
+    pub fn whole_numbers(self) -> Tables {
+        Tables {
+            plant: self.plant / NUMBER_BYTES,
+            segment: self.segment / NUMBER_BYTES,
+        }
+    }
+}
+
+/// One question: what does the call with this file and such tables leave?
+#[derive(Clone, Debug, PartialEq, Eq)]
+pub struct HistorianCall {
+    pub file: Vec<u8>,
+    pub tables: TableBytes,
+}
+
+impl HistorianCall {
+    /// The call for a case, its tables without spare bytes.
+    pub fn of(case: PeriodCase) -> Self {
+        HistorianCall {
+            file: case.file,
+            tables: TableBytes::of(case.tables),
+        }
+    }
+}
+
+impl Question for HistorianCall {
+    type Answer = Returned;
+
+    const LABELS: &'static [&'static str] = &[
+        "A", "R1", "R2", "R3", "R4", "R5", "R6", "R7", "R8", "R9", "R10", "R11", "R12", "R13",
+        "R14", "R15",
+    ];
+
+    fn write_frame(&self, frames: &mut Vec<u8>) {
+        write_length(self.file.len(), frames);
+        write_length(self.tables.plant, frames);
+        write_length(self.tables.segment, frames);
+        frames.extend(&self.file);
+    }
+
+    fn first_frame(input: &[u8]) -> Option<(Self, &[u8])> {
+        let (file, rest) = first_length(input)?;
+        let (plant, rest) = first_length(rest)?;
+        let (segment, rest) = first_length(rest)?;
+        let (file, rest) = split(rest, file)?;
+        let call = HistorianCall {
+            file: file.to_vec(),
+            tables: TableBytes { plant, segment },
+        };
+        Some((call, rest))
+    }
+
+    fn answer(&self) -> Returned {
+        Returned::of(self)
+    }
+
+    fn in_words(&self) -> String {
+        let TableBytes { plant, segment } = self.tables;
+        format!(
+            "bytes [{}], plant table of {plant} bytes, segment table of {segment} bytes",
+            hex(&self.file, " ")
+        )
+    }
+}
+
+#[cfg(test)]
+mod tests {
+    use super::*;
+    use crate::periods::paper::proved_cases;
+
+    #[test]
+    fn spare_bytes_hold_no_number() {
+        for (bytes, numbers) in [(0, 0), (7, 0), (8, 1), (15, 1), (16, 2)] {
+            let tables = TableBytes {
+                plant: bytes,
+                segment: bytes + NUMBER_BYTES,
+            };
+            let expected = Tables {
+                plant: numbers,
+                segment: numbers + 1,
+            };
+            assert_eq!(tables.whole_numbers(), expected);
+        }
+    }
+
+    #[test]
+    fn tables_of_a_case_have_no_spare_bytes() {
+        for case in proved_cases() {
+            let call = HistorianCall::of(case.clone());
+            assert_eq!(call.tables.whole_numbers(), case.tables);
+            assert_eq!(call.tables.plant % NUMBER_BYTES, 0);
+            assert_eq!(call.tables.segment % NUMBER_BYTES, 0);
+        }
+    }
+
+    #[test]
+    fn words_hold_the_bytes_and_both_lengths() {
+        let call = HistorianCall {
+            file: vec![0x01, 0x80],
+            tables: TableBytes {
+                plant: 65,
+                segment: 0,
+            },
+        };
+        assert_eq!(
+            call.in_words(),
+            "bytes [01 80], plant table of 65 bytes, segment table of 0 bytes"
+        );
+    }
+}

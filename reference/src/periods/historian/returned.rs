@@ -1,0 +1,260 @@
+//! What a call leaves with the historian: the refusal and the place, then all bytes of both tables.
+
+use super::call::{HistorianCall, NUMBER_BYTES};
+use crate::frames::split;
+use crate::periods::accounts::account;
+use crate::questions::Answer;
+
+/// What stands for the refusal and for the place of an accepted file.
+const ACCEPTED: u32 = 0;
+const NO_PLACE: u64 = 0;
+
+/// The bytes of a table before the call: those that the call leaves are known by it.
+struct Pattern {
+    /// The first byte.
+    first: u8,
+    /// What each byte is larger by than the one before, turning over.
+    step: u8,
+}
+
+const PLANT_PATTERN: Pattern = Pattern {
+    first: 90,
+    step: 17,
+};
+const SEGMENT_PATTERN: Pattern = Pattern {
+    first: 165,
+    step: 29,
+};
+
+impl Pattern {
+    /// A table of so many bytes as it is before the call.
+    fn table(&self, length: usize) -> Vec<u8> {
+        let mut next = self.first;
+        let mut table = Vec::with_capacity(length);
+        for _ in 0..length {
+            table.push(next);
+            next = next.wrapping_add(self.step);
+        }
+        table
+    }
+}
+
+/// What a call leaves.
+#[derive(Debug, PartialEq, Eq)]
+pub struct Returned {
+    refusal: u32,
+    place: u64,
+    plant_table: Vec<u8>,
+    segment_table: Vec<u8>,
+}
+
+impl Returned {
+    /// What the call must leave.
+    pub fn of(call: &HistorianCall) -> Self {
+        let before = Returned {
+            refusal: ACCEPTED,
+            place: NO_PLACE,
+            plant_table: PLANT_PATTERN.table(call.tables.plant),
+            segment_table: SEGMENT_PATTERN.table(call.tables.segment),
+        };
+        match account(&call.file, call.tables.whole_numbers()) {
+            Ok(rows) => Returned {
+                plant_table: written_over(before.plant_table, &rows.plant_numbers()),
+                segment_table: written_over(before.segment_table, &rows.segment_numbers()),
+                ..before
+            },
+            Err(refused) => Returned {
+                refusal: refused.reason as u32,
+                place: refused.place as u64,
+                ..before
+            },
+        }
+    }
+
+    /// What came for this answer, taken apart; nothing if it is cut short.
+    fn taken_apart(&self, came: &[u8]) -> Option<Returned> {
+        let (refusal, rest) = split(came, self.refusal.to_le_bytes().len())?;
+        let (place, rest) = split(rest, self.place.to_le_bytes().len())?;
+        let (plant_table, rest) = split(rest, self.plant_table.len())?;
+        let (segment_table, _) = split(rest, self.segment_table.len())?;
+        Some(Returned {
+            refusal: u32::from_le_bytes(refusal.try_into().ok()?),
+            place: u64::from_le_bytes(place.try_into().ok()?),
+            plant_table: plant_table.to_vec(),
+            segment_table: segment_table.to_vec(),
+        })
+    }
+
+    /// What came beside this answer, each part that differs in words.
+    fn differences(&self, came: &Returned) -> Vec<String> {
+        let mut differences = Vec::new();
+        if (self.refusal, self.place) != (came.refusal, came.place) {
+            let (expected, came) = (self.verdict(), came.verdict());
+            differences.push(format!("expected {expected}, came {came}"));
+        }
+        differences.extend(first_difference(
+            "plant table",
+            &self.plant_table,
+            &came.plant_table,
+        ));
+        differences.extend(first_difference(
+            "segment table",
+            &self.segment_table,
+            &came.segment_table,
+        ));
+        differences
+    }
+
+    /// The refusal and the place in words.
+    fn verdict(&self) -> String {
+        format!("refusal {} and place {}", self.refusal, self.place)
+    }
+}
+
+/// The table with the numbers written at its start, least significant byte first.
+fn written_over(mut table: Vec<u8>, numbers: &[u64]) -> Vec<u8> {
+    for (number, entry) in numbers.iter().zip(table.chunks_exact_mut(NUMBER_BYTES)) {
+        entry.copy_from_slice(&number.to_le_bytes());
+    }
+    table
+}
+
+/// The first byte of a table that differs, in words.
+fn first_difference(table: &str, expected: &[u8], came: &[u8]) -> Option<String> {
+    let place = (0..expected.len()).find(|&place| expected[place] != came[place])?;
+    Some(format!(
+        "{table} first differs at byte {place}: expected {:02X}, came {:02X}",
+        expected[place], came[place]
+    ))
+}
+
+impl Answer for Returned {
+    fn label(&self) -> String {
+        match self.refusal {
+            ACCEPTED => "A".to_string(),
+            number => format!("R{number}"),
+        }
+    }
+
+    fn bytes(&self) -> Vec<u8> {
+        let mut bytes = self.refusal.to_le_bytes().to_vec();
+        bytes.extend(self.place.to_le_bytes());
+        bytes.extend(&self.plant_table);
+        bytes.extend(&self.segment_table);
+        bytes
+    }
+
+    fn length_in(&self, output: &[u8]) -> usize {
+        self.bytes().len().min(output.len())
+    }
+
+    fn difference(&self, came: &[u8]) -> String {
+        let expected = self.verdict();
+        match self.taken_apart(came) {
+            Some(came) => self.differences(&came).join("; "),
+            None if came.is_empty() => format!("expected {expected}, came no answer"),
+            None => format!(
+                "expected {expected}, came only {} of {} bytes",
+                came.len(),
+                self.bytes().len()
+            ),
+        }
+    }
+}
+
+#[cfg(test)]
+mod tests {
+    use super::*;
+    use crate::periods::historian::call::TableBytes;
+    use crate::periods::paper::whole_period;
+
+    /// A period of one plant and one store, with the plant's export.
+    const SMALLEST: [u8; 10] = [1, 1, 1, 0, 3, 1, 0, 6, 2, 0];
+
+    fn call(file: &[u8], plant: usize, segment: usize) -> HistorianCall {
+        HistorianCall {
+            file: file.to_vec(),
+            tables: TableBytes { plant, segment },
+        }
+    }
+
+    #[test]
+    fn tables_before_the_call_are_those_of_the_test_program() {
+        let by_formula = |first: usize, step: usize| -> Vec<u8> {
+            (0..600)
+                .map(|place| ((step * place + first) % 256) as u8)
+                .collect()
+        };
+        assert_eq!(PLANT_PATTERN.table(600), by_formula(90, 17));
+        assert_eq!(SEGMENT_PATTERN.table(600), by_formula(165, 29));
+    }
+
+    #[test]
+    fn accepted_file_writes_the_first_numbers_and_no_more() {
+        let returned = Returned::of(&call(&SMALLEST, 64 + 3, 40 + 9));
+        let numbers =
+            |numbers: &[u64]| -> Vec<u8> { numbers.iter().flat_map(|n| n.to_le_bytes()).collect() };
+        assert_eq!((returned.refusal, returned.place), (0, 0));
+        assert_eq!(
+            returned.plant_table[..64],
+            numbers(&[3, 2, 1, 0, 0, 0, 0, 0])
+        );
+        assert_eq!(returned.plant_table[64..], PLANT_PATTERN.table(67)[64..]);
+        assert_eq!(returned.segment_table[..40], numbers(&[3, 2, 1, 0, 1]));
+        assert_eq!(
+            returned.segment_table[40..],
+            SEGMENT_PATTERN.table(49)[40..]
+        );
+    }
+
+    #[test]
+    fn refused_file_writes_nothing() {
+        for (plant, segment, refusal, place) in [(63, 40, 14, 8), (64, 39, 15, 5), (0, 0, 14, 8)] {
+            let returned = Returned::of(&call(&SMALLEST, plant, segment));
+            assert_eq!((returned.refusal, returned.place), (refusal, place));
+            assert_eq!(returned.plant_table, PLANT_PATTERN.table(plant));
+            assert_eq!(returned.segment_table, SEGMENT_PATTERN.table(segment));
+        }
+    }
+
+    #[test]
+    fn answer_is_refusal_place_and_both_tables() {
+        let returned = Returned::of(&call(&[0x01], 2, 1));
+        assert_eq!(
+            returned.bytes(),
+            [1, 0, 0, 0, 1, 0, 0, 0, 0, 0, 0, 0, 90, 107, 165]
+        );
+        assert_eq!(returned.length_in(&[0; 20]), 15);
+        assert_eq!(returned.length_in(&[0; 14]), 14);
+        assert_eq!(returned.label(), "R1");
+        let accepted = Returned::of(&call(&whole_period(), 128, 80));
+        assert_eq!(accepted.label(), "A");
+    }
+
+    #[test]
+    fn differences_name_what_differs() {
+        let returned = Returned::of(&call(&[0x01], 2, 1));
+        let mut came = returned.bytes();
+        came[0] = 2;
+        assert_eq!(
+            returned.difference(&came),
+            "expected refusal 1 and place 1, came refusal 2 and place 1"
+        );
+        came[0] = 1;
+        came[13] = 0;
+        came[14] = 0xFF;
+        assert_eq!(
+            returned.difference(&came),
+            "plant table first differs at byte 1: expected 6B, came 00; \
+             segment table first differs at byte 0: expected A5, came FF"
+        );
+        assert_eq!(
+            returned.difference(&came[..14]),
+            "expected refusal 1 and place 1, came only 14 of 15 bytes"
+        );
+        assert_eq!(
+            returned.difference(&[]),
+            "expected refusal 1 and place 1, came no answer"
+        );
+    }
+}

@@ -1,0 +1,61 @@
+//! Files that are as long as can be, and longer.
+
+use crate::numbers::number::MORE_FOLLOW;
+use crate::periods::account_limits::longest::longest_accepted;
+use crate::periods::paper::whole_period;
+use crate::periods::suites::whole_files::longest;
+use crate::periods::writing::write_numbers;
+
+/// How many bytes come after whole files.
+const BYTES_AFTER: [usize; 3] = [1, 2, 100_000];
+/// The bytes of which such runs and the endless files are: a number each, or none.
+const BYTES_OF_RUNS: [u8; 2] = [1, MORE_FOLLOW];
+/// The length of files of one byte that is repeated.
+const ENDLESS: usize = 1_000_000;
+
+/// The longest file, the longest accepted one and the whole period, alone and with bytes after
+/// them; and files of one byte repeated.
+pub fn long_files() -> Vec<Vec<u8>> {
+    let mut files = Vec::new();
+    for whole in [
+        write_numbers(&longest()),
+        write_numbers(&longest_accepted().numbers()),
+        whole_period(),
+    ] {
+        for byte in BYTES_OF_RUNS {
+            files.extend(BYTES_AFTER.map(|count| [&whole[..], &vec![byte; count]].concat()));
+        }
+        files.push(whole);
+    }
+    files.extend(BYTES_OF_RUNS.map(|byte| vec![byte; ENDLESS]));
+    files
+}
+
+#[cfg(test)]
+mod tests {
+    use super::*;
+    use crate::periods::printed::file::PrintedFile;
+
+    /// How many of the files the line is printed for.
+    fn printed_for(line: &str) -> usize {
+        let files = long_files().into_iter().map(PrintedFile);
+        files.filter(|file| file.printed() == line).count()
+    }
+
+    #[test]
+    fn whole_files_are_refused_for_what_comes_after() {
+        assert_eq!(
+            printed_for("R 9 2708\n"),
+            12,
+            "two files of as many numbers"
+        );
+        assert_eq!(printed_for("R 9 26\n"), 6);
+        assert_eq!(printed_for("R 10 1\n"), 1, "the longest file alone");
+    }
+
+    #[test]
+    fn endless_files_are_refused_at_their_start() {
+        assert_eq!(printed_for("R 7 9\n"), 1);
+        assert_eq!(printed_for("R 3 0\n"), 1);
+    }
+}

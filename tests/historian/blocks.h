@@ -1,0 +1,34 @@
+/* Blocks of memory of exactly the asked length, so that a byte touched outside of one is seen. */
+#ifndef BLOCKS_H
+#define BLOCKS_H
+
+#include <stdbool.h>
+#include <stddef.h>
+#include <stdint.h>
+
+enum block_kind {
+    BLOCK_ON_HEAP, /* each from malloc: AddressSanitizer and valgrind watch its edges */
+    BLOCK_GUARDED  /* ends where a page begins that ends the program when it is touched; the bytes before are checked */
+};
+
+struct block {
+    enum block_kind kind;
+    uint8_t *bytes; /* never null, also where len is 0 */
+    size_t len;
+    uint8_t *room; /* guarded: readable and writable pages with the guard page behind, kept for the next block */
+    size_t room_len;
+};
+
+/* The kind that a program's first argument names: none, or `guarded`. Ends the program with 2 for another word. */
+enum block_kind block_kind_asked(int argc, char **argv);
+
+/* Gives the block `len` bytes of any content. `block` starts as { .kind = .. }, or was given back. */
+void block_take(struct block *block, size_t len);
+
+/* Whether the bytes before a guarded block are as block_take left them; true on the heap, which others watch. */
+bool block_front_stayed(const struct block *block);
+
+/* Ends the use of the block. */
+void block_give_back(struct block *block);
+
+#endif

@@ -1,0 +1,207 @@
+/* calls [guarded]: calls steeplecuff_quantify as the historian does and checks every byte of what comes back: the whole
+   period of 01, its proved cases, and tables of many lengths. Prints a line for each call, begun before it is made, so
+   that the last line tells where the program died; then 'N passed, M failed'. */
+#include <inttypes.h>
+#include <stdio.h>
+#include <string.h>
+
+#include "one_call.h"
+#include "period_file.h"
+#include "steeplecuff.h"
+
+enum { PLANTS = 2, SEGMENTS = 2 }; /* of the whole period, from which all accepted files here are made */
+enum { PLANT_ENTRIES = PLANTS * STEEPLECUFF_PLANT_NUMBERS, SEGMENT_ENTRIES = SEGMENTS * STEEPLECUFF_SEGMENT_NUMBERS };
+enum { PLANT_BYTES = PLANT_ENTRIES * STEEPLECUFF_NUMBER_BYTES, SEGMENT_BYTES = SEGMENT_ENTRIES * STEEPLECUFF_NUMBER_BYTES };
+enum { NUMBER = STEEPLECUFF_NUMBER_BYTES, BYTE_BITS = 8 };
+enum { MOST_EDITS = 4, EXTRA_BYTES = 1 };
+
+struct rows {
+    uint64_t plants[PLANT_ENTRIES];
+    uint64_t segments[SEGMENT_ENTRIES];
+};
+
+struct expected {
+    uint32_t refusal;
+    uint64_t place;
+    const struct rows *rows; /* NULL where the file is refused */
+};
+
+struct bytes {
+    const uint8_t *at;
+    size_t len;
+};
+
+struct lengths {
+    size_t plants, segments;
+};
+
+static const struct lengths exact = {PLANT_BYTES, SEGMENT_BYTES};
+
+/* The rows that 01 prints. */
+static const struct rows whole_rows = {
+    {10000, 9931, 69, 9931, 879, 9052, 9, 0,
+     5001, 4968, 33, 4471, 90, 4381, 4, 0},
+    {15001, 14900, 101, 268, 3,
+     14900, 14899, 1, 0, 3}};
+
+/* 01 gives plant 1's units and deficit; associated is 4000000000 of its own and a charge of 179. */
+static const struct rows most_grams_rows = {
+    {10000, 9931, 69, 9931, 4000000179, 0, 0, 3999990248,
+     5001, 4968, 33, 4471, 90, 4381, 4, 0},
+    {15001, 14900, 101, 268, 3,
+     14900, 14899, 1, 0, 3}};
+
+/* Nothing is lost at segment 1; segment 2 credits floor(10000 x 14899 / 15001) = 9932 and the rest, 4967. */
+static const struct rows no_loss_rows = {
+    {10000, 9932, 68, 9932, 879, 9053, 9, 0,
+     5001, 4967, 34, 4470, 90, 4380, 4, 0},
+    {15001, 15001, 0, 268, 3,
+     15001, 14899, 102, 0, 3}};
+
+static struct one_call call;
+static unsigned passed, failed;
+
+static bool answer_is(const struct expected *expected)
+{
+    if (call.refusal == expected->refusal && call.place == expected->place)
+        return true;
+    printf("FAILED, it is %" PRIu32 " at %" PRIu64 " and should be %" PRIu32 " at %" PRIu64 "\n", call.refusal, call.place,
+           expected->refusal, expected->place);
+    return false;
+}
+
+/* Whether the table's first `count` entries are the numbers, and every byte after them is as it was before. */
+static bool table_is(const char *name, const struct block *table, const uint64_t *numbers, size_t count,
+                     uint8_t (*byte_before)(size_t))
+{
+    for (size_t i = 0; i < table->len; i++) {
+        uint8_t wanted = i / NUMBER < count ? (uint8_t)(numbers[i / NUMBER] >> (BYTE_BITS * (i % NUMBER))) : byte_before(i);
+        if (table->bytes[i] != wanted) {
+            printf("FAILED, byte %zu of the %s table is %u and should be %u\n", i, name, table->bytes[i], wanted);
+            return false;
+        }
+    }
+    return true;
+}
+
+/* Whether both tables hold the rows, or where there are none have stayed as they were. */
+static bool tables_are(const struct rows *rows)
+{
+    if (rows == NULL)
+        return table_is("plant", &call.plants, NULL, 0, plant_byte_before) &&
+               table_is("segment", &call.segments, NULL, 0, segment_byte_before);
+    return table_is("plant", &call.plants, rows->plants, PLANT_ENTRIES, plant_byte_before) &&
+           table_is("segment", &call.segments, rows->segments, SEGMENT_ENTRIES, segment_byte_before);
+}
+
+/* Makes one call, and prints and counts whether all is as expected. */
+static void check(const char *name, struct bytes file, struct lengths lengths, struct expected expected)
+{
+    printf("%s: ", name);
+    fflush(stdout);
+    const char *changed = one_call_make(&call, file.at, file.len, lengths.plants, lengths.segments);
+    if (changed != NULL) {
+        printf("FAILED, %s\n", changed);
+        failed++;
+    } else if (answer_is(&expected) && tables_are(expected.rows)) {
+        puts("passed");
+        passed++;
+    } else {
+        failed++;
+    }
+    one_call_end(&call);
+}
+
+/* 01's proved cases that are given as bytes. */
+static void check_bytes(void)
+{
+    static const struct {
+        const char *name;
+        uint8_t bytes[MOST_NUMBER_BYTES];
+        size_t len;
+        struct expected expected;
+    } cases[] = {
+        {"empty file", {0}, 0, {1, 0, NULL}},
+        {"byte 01 alone", {0x01}, 1, {1, 1, NULL}},
+        {"bytes 80 00", {0x80, 0x00}, 2, {2, 0, NULL}},
+        {"bytes 81 D0 AC F3 0E", {0x81, 0xD0, 0xAC, 0xF3, 0x0E}, 5, {3, 0, NULL}},
+        {"byte 02 alone", {0x02}, 1, {4, 0, NULL}},
+        {"bytes 01 00", {0x01, 0x00}, 2, {5, 1, NULL}},
+    };
+    for (size_t i = 0; i < sizeof cases / sizeof cases[0]; i++)
+        check(cases[i].name, (struct bytes){cases[i].bytes, cases[i].len}, exact, cases[i].expected);
+}
+
+/* 01's proved cases that change figures of the whole period. */
+static void check_edits(void)
+{
+    static const struct {
+        const char *name;
+        size_t edits;
+        struct {
+            size_t at;
+            uint32_t number;
+        } edit[MOST_EDITS];
+        struct expected expected;
+    } cases[] = {
+        {"second kind 5", 1, {{SECOND_KIND, 5}}, {7, 15, NULL}},
+        {"first line 4000000000 x 1000", 2, {{FIRST_QUANTITY, 4000000000}, {FIRST_FACTOR, 1000}}, {0, 0, &most_grams_rows}},
+        {"first line 4000000000 x 1001", 2, {{FIRST_QUANTITY, 4000000000}, {FIRST_FACTOR, 1001}}, {10, 1, NULL}},
+        {"first outflow 15001", 1, {{FIRST_OUTFLOW, 15001}}, {0, 0, &no_loss_rows}},
+        {"first outflow 15002", 1, {{FIRST_OUTFLOW, 15002}}, {12, 1, NULL}},
+        {"both exports and outflows 0, lines kept", 4,
+         {{FIRST_EXPORTED, 0}, {SECOND_EXPORTED, 0}, {FIRST_OUTFLOW, 0}, {SECOND_OUTFLOW, 0}}, {13, 1, NULL}},
+    };
+    for (size_t i = 0; i < sizeof cases / sizeof cases[0]; i++) {
+        uint32_t numbers[WHOLE_PERIOD_NUMBERS];
+        uint8_t file[WHOLE_PERIOD_NUMBERS * MOST_NUMBER_BYTES];
+        memcpy(numbers, whole_period, sizeof numbers);
+        for (size_t edit = 0; edit < cases[i].edits; edit++)
+            numbers[cases[i].edit[edit].at] = cases[i].edit[edit].number;
+        size_t len = put_numbers(file, numbers, WHOLE_PERIOD_NUMBERS);
+        check(cases[i].name, (struct bytes){file, len}, exact, cases[i].expected);
+    }
+}
+
+/* The whole period with tables of many lengths, 01's table of 15 numbers among them; and one byte more behind it. */
+static void check_lengths(void)
+{
+    static const struct {
+        const char *name;
+        struct lengths lengths;
+        struct expected expected;
+    } cases[] = {
+        {"whole period", {PLANT_BYTES, SEGMENT_BYTES}, {0, 0, &whole_rows}},
+        {"the largest tables", {STEEPLECUFF_MOST_PLANT_BYTES, STEEPLECUFF_MOST_SEGMENT_BYTES}, {0, 0, &whole_rows}},
+        {"one later entry", {PLANT_BYTES + NUMBER, SEGMENT_BYTES + NUMBER}, {0, 0, &whole_rows}},
+        {"one spare byte", {PLANT_BYTES + 1, SEGMENT_BYTES + 1}, {0, 0, &whole_rows}},
+        {"a later entry and seven spare bytes", {PLANT_BYTES + 2 * NUMBER - 1, SEGMENT_BYTES + 2 * NUMBER - 1}, {0, 0, &whole_rows}},
+        {"plant table of 15 numbers", {PLANT_BYTES - NUMBER, SEGMENT_BYTES}, {14, 16, NULL}},
+        {"plant table one byte short", {PLANT_BYTES - 1, SEGMENT_BYTES}, {14, 16, NULL}},
+        {"plant table empty", {0, SEGMENT_BYTES}, {14, 16, NULL}},
+        {"segment table one number short", {PLANT_BYTES, SEGMENT_BYTES - NUMBER}, {15, 10, NULL}},
+        {"segment table one byte short", {PLANT_BYTES, SEGMENT_BYTES - 1}, {15, 10, NULL}},
+        {"segment table empty", {PLANT_BYTES, 0}, {15, 10, NULL}},
+        {"both tables one number short", {PLANT_BYTES - NUMBER, SEGMENT_BYTES - NUMBER}, {14, 16, NULL}},
+        {"both tables empty", {0, 0}, {14, 16, NULL}},
+    };
+    uint8_t file[WHOLE_PERIOD_NUMBERS * MOST_NUMBER_BYTES + EXTRA_BYTES];
+    size_t len = put_numbers(file, whole_period, WHOLE_PERIOD_NUMBERS);
+    for (size_t i = 0; i < sizeof cases / sizeof cases[0]; i++)
+        check(cases[i].name, (struct bytes){file, len}, cases[i].lengths, cases[i].expected);
+
+    file[len] = 0;
+    struct expected bytes_after = {9, WHOLE_PERIOD_NUMBERS, NULL};
+    check("whole period and one byte more", (struct bytes){file, len + EXTRA_BYTES}, exact, bytes_after);
+    check("one byte more, both tables empty", (struct bytes){file, len + EXTRA_BYTES}, (struct lengths){0, 0}, bytes_after);
+}
+
+int main(int argc, char **argv)
+{
+    call = one_call_on(block_kind_asked(argc, argv));
+    check_bytes();
+    check_edits();
+    check_lengths();
+    printf("%u passed, %u failed\n", passed, failed);
+    return failed == 0 ? 0 : 1;
+}
