@@ -7,7 +7,7 @@ use mathlib.Core.Logic.{inl, inr, ⊎-elim}
 use native.Mathlib.Nat.{le-trans}
 use native.Mathlib.Omega.{arith}
 use lib.Dec.{ltb}
-use lib.ListN.{length, List·getD-eq-default, take, drop, drop-of-length-le, getD, set, length-replicate, getD-replicate, replicate}
+use lib.ListN.{length, List·getD-eq-default, take, drop, drop-of-length-le, getD, set, length-replicate, replicate}
 use lib.Seq.{length-take-le, getD-take}
 use borrow.Author.Tests.{ltb-true, ltb-false}
 use Rattle.number.specs.Groups.{largest}
@@ -19,34 +19,16 @@ use Rattle.records.specs.Segments.{mostSegments, noSegment}
 use Rattle.records.specs.Periods.{Period}
 use Rattle.records.specs.Within.{Each, PlantWithin, SegmentWithin}
 use Rattle.records.specs.Answers.{Verdict, accepts, refuses}
+use Rattle.records.proofs.Within.{each-on}
 use Rattle.period.specs.Walk.{starting, sum, credits, turns, arrived}
 use Rattle.period.specs.Accounts.{account}
 use Rattle.period.specs.Rows.{plantRows, segmentRows}
 use Rattle.period.specs.Order.{Answer, refusal, accepted, Test, tested, segmentTests, plantNumbers, segmentNumbers, tableTests}
 use Rattle.period.specs.Quantified.{accountsOf, rows}
-use Rattle.period.specs.Inside.{
-  Passes,
-  Refuses,
-  Small,
-  KgOf,
-  Sized,
-  column,
-  accountBy,
-  Started,
-  Moved,
-  PlantsWritable,
-  SegmentsWritable,
-  plantRowsBy,
-  segmentRowsBy,
-  Settled,
-  Finished,
-  periodOf,
-  settled,
-}
+use Rattle.period.specs.Inside.{Passes, Refuses, Small, KgOf, column, accountBy, Started, Moved, PlantsWritable, SegmentsWritable, plantRowsBy, segmentRowsBy, Settled, Finished, periodOf, settled}
 use Rattle.period.proofs.Books.{segment-rows, segment-rows-long, plant-rows, plant-rows-long, stored-most, chargeable}
 use Rattle.period.proofs.Columns.{column-at, column-length}
 use Rattle.period.proofs.Credits.{sum-most}
-use Rattle.period.proofs.Tests.{room-is}
 use Rattle.period.proofs.Steps.{brings-most}
 use Rattle.period.proofs.Turning.{after, after-length, at, AtTurn, at-start, refused, on-turn, plant-within, segment-within}
 
@@ -62,11 +44,6 @@ zeros : (n i : ℕ) → getD (replicate n none) i none ≡ none
 zeros zero i = refl
 zeros (suc n) zero = refl
 zeros (suc n) (suc i) = zeros n i
-
-pub each-on : {A : Type 0} {P Q : ℕ → A → Type 0} → ((own : ℕ) (one : A) → P own one → Q own one) → (own : ℕ) (all : List A) → Each P own all → Each Q own all
-unfolding Each
-each-on then own [] each = tt
-each-on then own (one ∷ rest) each = (then own one (each .0), each-on then (suc own) rest (each .1))
 
 -- what is known of the period: there are so many plants and segments in the arrays, each is within its limits, and no owner emits more than the largest
 pub record Given (plantArray : List Plant) (plantCount : ℕ) (segmentArray : List Segment) (segmentCount : ℕ) (kg : List ℕ) : Type 0 where

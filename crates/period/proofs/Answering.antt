@@ -5,23 +5,21 @@ use mathlib.Core.Bool.{Bool, true, false, cond, true≢false}
 use mathlib.Core.List.{List, [], _∷_, _++_, map}
 use native.Mathlib.Nat.{le-trans}
 use native.Mathlib.Omega.{arith}
-use lib.ListN.{length, length-append, length-map, take, replicate}
+use lib.ListN.{length, length-map, take, replicate}
 use lib.Seq.{take-append-seam}
 use Rattle.records.specs.declared.answer.Answer.{Answer as Told}
 use Rattle.records.specs.declared.line.Line.{Line}
 use Rattle.records.specs.declared.plant.Plant.{Plant}
 use Rattle.records.specs.declared.reading.Reading.{Reading}
-use Rattle.records.specs.declared.segment.Segment.{Segment}
 use Rattle.records.specs.Plants.{mostPlants, noPlant}
 use Rattle.records.specs.Segments.{mostSegments, noSegment}
 use Rattle.records.specs.Lines.{mostLines, noLine}
-use Rattle.records.specs.Run.{Run}
 use Rattle.records.specs.Fields.{Read, read, refused}
 use Rattle.records.specs.Periods.{Period, periodFile}
 use Rattle.records.specs.Within.{Each, PlantWithin, SegmentWithin, LineWithin, Within}
 use Rattle.records.specs.Answers.{Verdict, accepts, refuses, said}
 use Rattle.records.specs.Held.{verdictOf as verdictOfReading, recordsOf, filled, Held}
-use Rattle.records.proofs.Within.{read-within}
+use Rattle.records.proofs.Within.{each-on, read-within}
 use Rattle.period.specs.declared.call.Quantified.{Quantified}
 use Rattle.period.specs.declared.emissions.Emissions.{Emissions}
 use Rattle.period.specs.Walk.{Standing, starting, turns, arrived}
@@ -30,8 +28,7 @@ use Rattle.period.specs.Rows.{plantRows, segmentRows}
 use Rattle.period.specs.Order.{Answer, refusal, accepted, Test, tested, lineTests, segmentTests, plantNumbers, segmentNumbers, tableTests}
 use Rattle.period.specs.Quantified.{started, accountsOf, rows, judged, afterReading, quantified}
 use Rattle.period.specs.Written.{verdictOf, plantsAfter, segmentsAfter, plantsWritten, segmentsWritten, Answers}
-use Rattle.period.specs.Inside.{Passes, Small, AddedUp, KgOf, Finished, periodOf, settled, Settled, nothing}
-use Rattle.period.proofs.Accounting.{each-on}
+use Rattle.period.specs.Inside.{Passes, Small, AddedUp, Finished, settled, Settled, nothing}
 use Rattle.period.proofs.Walks.{arrived-length, turns-length}
 
 -- what the call promises, of what it hands back and of the tables before and after

@@ -1,10 +1,10 @@
 -- The rows that are written by the tables are the rows of the definitions, once all segments are worked.
 use Prim.Native.Nat.{ℕ, zero, suc, _+_, _*_, _≤_, _<_}
-use mathlib.Core.Path.{_≡_, refl, sym, ap, ap₂, _∙_}
+use mathlib.Core.Path.{_≡_, refl, sym, ap, _∙_}
 use mathlib.Core.List.{List, [], _∷_, _++_, append-assoc, append-nil, map}
 use mathlib.Core.Logic.{⊎-elim}
 use native.Mathlib.Omega.{arith}
-use lib.ListN.{length, length-map, length-append, take, drop, drop-of-length-le, getD}
+use lib.ListN.{length, length-map, length-append, drop, drop-of-length-le, getD}
 use lib.Seq.{drop-cons, take-all}
 use borrow.Author.Tests.{eq-eqb}
 use Rattle.number.specs.Groups.{largest}
@@ -16,9 +16,9 @@ use Rattle.records.specs.Segments.{mostSegments, noSegment}
 use Rattle.period.specs.Emissions.{roundedUp}
 use Rattle.period.specs.Walk.{Standing, starting, brings, amounts, sum, Turn, turns, arrived}
 use Rattle.period.specs.Accounts.{Account, account, chargeTo, charges}
-use Rattle.period.specs.Rows.{plantRow, associated, plantRows, segmentRow, segmentRows}
+use Rattle.period.specs.Rows.{plantRow, associated, plantRows, segmentRows}
 use Rattle.period.specs.Order.{plantNumbers, segmentNumbers}
-use Rattle.period.specs.Inside.{KgOf, Sized, cell, nowhere, Chargeable, chargesBy, plantRowsBy, segmentRowsBy}
+use Rattle.period.specs.Inside.{KgOf, cell, nowhere, Chargeable, chargesBy, plantRowsBy, segmentRowsBy}
 use Rattle.period.proofs.Credits.{part-of-sum}
 use Rattle.period.proofs.Turning.{after, after-length, at, AtTurn}
 use Rattle.period.proofs.Walks.{getD-map, turns-length, turn-at}

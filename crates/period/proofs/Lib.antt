@@ -23,5 +23,9 @@ mod Answering
 -- What reading refuses is refused; a table with room for the most rows is answered as a longer one.
 pub mod Refused
 pub mod Room
+-- Bytes past the longest file cannot change the answer.
+pub mod Longer
+-- No two outcomes meet the promise of the call.
+pub mod Outcome
 -- The whole period of 01 and its proved cases.
 pub mod Examples

@@ -1,16 +1,16 @@
 -- The segments worked in rising number: what the tables hold when a segment's turn comes, before the first and after the last.
-use Prim.Native.Nat.{ℕ, zero, suc, _+_, _*_, _^_, _≤_, _<_}
+use Prim.Native.Nat.{ℕ, suc, _+_, _≤_, _<_}
 use mathlib.Core.Path.{_≡_, refl, sym, ap, _∙_}
-use mathlib.Core.Bool.{Bool, true, false, cond, _&&_, _||_, and-false}
+use mathlib.Core.Bool.{Bool, true, false, cond, _||_, and-false}
 use mathlib.Core.List.{List, [], _∷_, _++_, append-assoc, map}
 use mathlib.Core.Logic.{_⊎_, inl, inr, ⊎-elim}
 use native.Mathlib.Nat.{le-trans, le-of-suc-le-suc, eq-or-lt-of-le}
 use native.Mathlib.Omega.{arith}
 use lib.Bits.{bitOr}
 use lib.Dec.{eqb}
-use lib.ListN.{length, length-map, take, drop, drop-of-length-le, getD, set, length-set}
-use lib.Seq.{drop-cons, getD-set-same, getD-set-other, ext-getD, take-all}
-use borrow.Author.Tests.{ne-eqb, eqb-true, eqb-false}
+use lib.ListN.{length, length-map, take, drop, getD, set, length-set}
+use lib.Seq.{drop-cons, getD-set-same, getD-set-other, ext-getD}
+use borrow.Author.Tests.{ne-eqb}
 use Rattle.number.specs.Groups.{largest}
 use Rattle.records.specs.declared.line.Line.{Line}
 use Rattle.records.specs.declared.plant.Plant.{Plant}
@@ -20,15 +20,15 @@ use Rattle.records.specs.Segments.{mostSegments, noSegment}
 use Rattle.records.specs.Within.{Each, PlantWithin, SegmentWithin}
 use Rattle.records.specs.Answers.{Verdict, accepts, refuses}
 use Rattle.records.proofs.Within.{each-at}
-use Rattle.period.specs.Walk.{Standing, starting, passes, brings, amounts as entering, sum, credits, sentOn, passed, Turn, turns, arrived}
+use Rattle.period.specs.Walk.{Standing, starting, passes, brings, amounts as entering, sum, credits, sentOn, passed, turns, arrived}
 use Rattle.period.specs.Accounts.{Account, setOf, account}
-use Rattle.period.specs.Order.{Answer, refusal, Test, tested, segmentTests}
+use Rattle.period.specs.Order.{Answer, Test, tested, segmentTests}
 use Rattle.period.specs.Inside.{Passes, Refuses, KgOf, Sized, cell, column, hasPlant, nowhere, AmountsHold, SetsHold, StoredHold, Started, accountBy, Moved}
 use Rattle.period.proofs.Columns.{column-length, column-at}
 use Rattle.period.proofs.Credits.{credited-most}
 use Rattle.period.proofs.Sets.{set-has, set-same, set-joined}
 use Rattle.period.proofs.Steps.{brings-most, brought, stands, may-be, no-more as at-most}
-use Rattle.period.proofs.Walks.{getD-map, passed-length, passed-at, arrived-length, arrived-on}
+use Rattle.period.proofs.Walks.{getD-map, passed-at, arrived-length, arrived-on}
 
 module _ (plants : List Plant) (segments : List Segment) where
   -- where the plants are after so many turns

@@ -1,10 +1,9 @@
 -- The walk, turn by turn: where the plants are when a segment's turn comes.
 use Prim.Native.Nat.{ℕ, zero, suc, _+_, _≤_, _<_}
-use mathlib.Core.Path.{_≡_, refl, sym, ap, _∙_}
+use mathlib.Core.Path.{_≡_, refl, ap, _∙_}
 use mathlib.Core.List.{List, [], _∷_, map, zipWith}
 use native.Mathlib.Omega.{arith}
 use lib.ListN.{length, length-map, take, drop, getD}
-use lib.Seq.{take-nil, drop-nil}
 use Rattle.records.specs.declared.segment.Segment.{Segment}
 use Rattle.records.specs.Segments.{noSegment}
 use Rattle.period.specs.Walk.{Standing, brings, amounts, sum, credits, sentOn, passed, Turn, turns, arrived}

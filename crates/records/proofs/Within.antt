@@ -33,6 +33,12 @@ each-at P own [] i d j is h all = absurd (not-suc-le-zero h)
 each-at P own (x ∷ xs) zero d j is h all = let here : own ≡ j = omega arith in rw here at (all .0)
 each-at P own (x ∷ xs) (suc i) d j is h all = each-at P (suc own) xs i d j (omega arith) (omega arith) (all .1)
 
+-- what follows from a property holds of each as well
+pub each-on : {A : Type 0} {P Q : ℕ → A → Type 0} → ((own : ℕ) (one : A) → P own one → Q own one) → (own : ℕ) (all : List A) → Each P own all → Each Q own all
+unfolding Each
+each-on then own [] each = tt
+each-on then own (one ∷ rest) each = (then own one (each .0), each-on then (suc own) rest (each .1))
+
 -- ---- whatever allowed numbers a reader reads, what it gives has a property
 data Gives {A : Type 0} (P : A → Type 0) : Reader A → Type 0 where
   done : {what : A} → P what → Gives P (return what)

@@ -1,6 +1,6 @@
 -- `period::flow::work` meets its contract: the three tests in their order, and then the plants go on. Assumes nothing.
 use Prim.Native.Nat.{suc}
-use mathlib.Core.Path.{refl, sym, _∙_}
+use mathlib.Core.Path.{sym, _∙_}
 use mathlib.Core.Logic.{inl, inr, ⊎-elim}
 use native.Mathlib.Numerals.{unary-clauses}
 use native.Mathlib.Omega.{arith}

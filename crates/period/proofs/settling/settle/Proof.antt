@@ -1,19 +1,30 @@
 -- `period::settling::settle` meets its contract: the plants start, the segments are worked in turn, and the rows are written. Assumes nothing.
-use Prim.Native.Nat.{suc, _-_}
-use mathlib.Core.Path.{refl, sym}
+use Prim.Native.Nat.{_-_}
+use mathlib.Core.Path.{refl}
 use native.Mathlib.Numerals.{unary-clauses}
 use native.Mathlib.Omega.{arith}
+use lib.ListN.{length, take}
 use denote.Ref.{now}
 use borrow.Author.Needs.{needs}
 use Rattle.records.specs.Answers.{said}
-use Rattle.period.proofs.Accounting.{Turned, turned-start, within, sum-fits, turned-refused, turned-on, tables-refused, plants-writable, segments-writable, accepted-rows}
+use Rattle.records.proofs.Verdicts.{accepted, not-accepted}
+use Rattle.period.proofs.Accounting.{
+  Given,
+  plants-start,
+  turned-start,
+  within,
+  sum-fits,
+  turned-refused,
+  turned-on,
+  tables-refused,
+  plants-writable,
+  segments-writable,
+  accepted-rows,
+}
 use Rattle.period.proofs.Tests.{room-is}
+use Rattle.period.proofs.Turning.{AtTurn}
 use Rattle.period.proofs.settling.settle.Statement.{statement}
 use Rattle.period.proofs.settling.settle.Tie as tie
-use lib.ListN.{length, take}
-use Rattle.records.proofs.Verdicts.{accepted, not-accepted}
-use Rattle.period.proofs.Turning.{AtTurn}
-use Rattle.period.proofs.Accounting.{Given, plants-start}
 
 abbrev Inv-loop : tie.InvT-loop
 Inv-loop plants plant-count segment-count plant-table segment-table segments kg amounts₀ sets₀ inflows₀ stored₀ s₀ amounts sets inflows stored s =

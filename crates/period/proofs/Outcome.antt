@@ -1,0 +1,33 @@
+-- No two outcomes meet the promise of the call.
+use Prim.Native.Nat.{ℕ}
+use mathlib.Core.Path.{_≡_, sym, ap, _∙_}
+use mathlib.Core.List.{List}
+use lib.ListN.{length}
+use Rattle.records.specs.declared.answer.Answer.{Answer as Told}
+use Rattle.records.proofs.Outcome.{said-once}
+use Rattle.period.specs.declared.call.Quantified.{Quantified}
+use Rattle.period.specs.Quantified.{quantified}
+use Rattle.period.specs.Written.{plantsAfter, segmentsAfter, Answers}
+
+-- what the call hands back and leaves in the two tables, for a file and the tables as they were
+pub record Promised (file plants segments : List ℕ) (r : Quantified) (plants' segments' : List ℕ) : Type 0 where
+  pub answers : Answers r (quantified file (length plants) (length segments))
+  pub plants-after : plants' ≡ plantsAfter (quantified file (length plants) (length segments)) plants
+  pub segments-after : segments' ≡ segmentsAfter (quantified file (length plants) (length segments)) segments
+
+-- an answer by its fields
+abbrev made : Told → ℕ → ℕ → Quantified
+made answer plantNumbers segmentNumbers = record { answer = answer; «plant_numbers» = plantNumbers; «segment_numbers» = segmentNumbers }
+
+pub one-outcome :
+    (file plants segments : List ℕ) (r s : Quantified) (plants₁ plants₂ segments₁ segments₂ : List ℕ) →
+    Promised file plants segments r plants₁ segments₁ → Promised file plants segments s plants₂ segments₂ →
+    (r ≡ s) × (plants₁ ≡ plants₂) × (segments₁ ≡ segments₂)
+one-outcome file plants segments r s plants₁ plants₂ segments₁ segments₂ p q = (
+  ap (λ (x : Told). made x (r .«plant_numbers») (r .«segment_numbers»))
+      (said-once (r .answer) (s .answer) (p .answers .verdict ∙ sym (q .answers .verdict)))
+      ∙ ap (λ (x : ℕ). made (s .answer) x (r .«segment_numbers»)) (p .answers .plants ∙ sym (q .answers .plants))
+      ∙ ap (made (s .answer) (s .«plant_numbers»)) (p .answers .segments ∙ sym (q .answers .segments)),
+  p .plants-after ∙ sym (q .plants-after),
+  p .segments-after ∙ sym (q .segments-after),
+)

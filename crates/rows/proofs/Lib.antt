@@ -1,0 +1,2 @@
+-- The numbers that the call wrote lie within its tables.
+mod Within

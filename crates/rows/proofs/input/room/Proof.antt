@@ -1,0 +1,10 @@
+-- `rows::input::room` meets its contract: the parts of the longest file come to the length that the definitions compute. Assumes nothing.
+use mathlib.Core.Path.{refl}
+use Rattle.rows.proofs.input.room.Statement.{statement}
+use Rattle.rows.proofs.input.room.Tie as tie
+
+returns : tie.Need-returns
+returns c = refl
+
+pub room-spec : {M : Type 1} → statement M
+room-spec = tie.close (tie.spec returns)

@@ -1,0 +1,2 @@
+-- What the reading of standard input leaves behind.
+pub mod Standing

@@ -1,0 +1,39 @@
+// The program that users run: it reads a period file on standard input, and prints a row for each
+// plant and for each segment, or the one line of a refused file (01, "One whole period").
+//
+// A fault of reading is not the end of the file: it is said on standard error, with what to do next,
+// and so is output that cannot be written.
+mod input;
+mod output;
+
+use crate::input::Input;
+use crate::input::read_input;
+use crate::input::room;
+use crate::output::print_answer;
+use libc::STDERR_FILENO;
+
+fn main() {
+    let mut room = room();
+    let input = read_input(&mut room);
+    let Input::File { bytes } = input else {
+        say_unread();
+        return;
+    };
+    if !print_answer(&room[..bytes]) {
+        say_unwritten();
+    }
+}
+
+fn say_unread() {
+    io::write_all(
+        STDERR_FILENO,
+        b"rows: cannot read standard input: see that it is a file that you may read, and run this again\n",
+    );
+}
+
+fn say_unwritten() {
+    io::write_all(
+        STDERR_FILENO,
+        b"rows: cannot write all rows to standard output: see that there is room, and run this again\n",
+    );
+}
