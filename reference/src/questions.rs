@@ -70,6 +70,32 @@ pub fn hex(bytes: &[u8], between: &str) -> String {
     digits.join(between)
 }
 
+/// What the tests of all suites ask.
+#[cfg(test)]
+pub mod suites_checked {
+    use super::*;
+    use crate::compare::tally::Tally;
+
+    /// Each suite meets the answers of its row, so often at least.
+    pub fn assert_each_meets<Q: Question>(suites: &[Suite<Q>], met: &[(&[&str], usize)]) {
+        assert_eq!(suites.len(), met.len());
+        for (Suite { name, cases, .. }, (labels, at_least)) in suites.iter().zip(met) {
+            let tally = Tally::of(cases);
+            for label in *labels {
+                assert!(tally.count(label) >= *at_least, "{name}: {tally}");
+            }
+        }
+    }
+
+    /// Suites that are made twice ask the same cases.
+    pub fn assert_same_cases<C: PartialEq>(once: &[Suite<C>], again: &[Suite<C>]) {
+        assert_eq!(once.len(), again.len());
+        for (once, again) in once.iter().zip(again) {
+            assert!(once.cases == again.cases, "{}", once.name);
+        }
+    }
+}
+
 #[cfg(test)]
 mod tests {
     use super::*;

@@ -360,12 +360,11 @@ mod tests {
     use super::*;
     use crate::compare::tally::Tally;
     use crate::numbers::number::{read_number, Reading};
+    use crate::questions::suites_checked::assert_same_cases;
 
     #[test]
     fn every_run_asks_the_same_cases() {
-        for (once, again) in number_suites().iter().zip(number_suites()) {
-            assert!(once.cases == again.cases, "{}", once.name);
-        }
+        assert_same_cases(&number_suites(), &number_suites());
     }
 
     #[test]

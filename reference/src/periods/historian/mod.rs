@@ -104,7 +104,7 @@ fn full_size(name: &'static str, periods: &[Period]) -> Suite<HistorianCall> {
 #[cfg(test)]
 mod tests {
     use super::*;
-    use crate::compare::tally::Tally;
+    use crate::questions::suites_checked::{assert_each_meets, assert_same_cases};
     use crate::questions::Question;
 
     /// The answers that each suite must meet, and how often at least.
@@ -140,21 +140,12 @@ mod tests {
 
     #[test]
     fn suites_meet_each_answer_they_can() {
-        let suites = historian_suites();
-        assert_eq!(suites.len(), MET.len());
-        for (Suite { name, cases, .. }, (labels, at_least)) in suites.iter().zip(MET) {
-            let tally = Tally::of(cases);
-            for label in labels {
-                assert!(tally.count(label) >= at_least, "{name}: {tally}");
-            }
-        }
+        assert_each_meets(&historian_suites(), &MET);
     }
 
     #[test]
     fn every_run_asks_the_same_cases() {
-        for (once, again) in historian_suites().iter().zip(historian_suites()) {
-            assert!(once.cases == again.cases, "{}", once.name);
-        }
+        assert_same_cases(&historian_suites(), &historian_suites());
     }
 
     #[test]

@@ -54,7 +54,7 @@ fn suite(name: &'static str, files: Vec<Vec<u8>>) -> Suite<PeriodFile> {
 #[cfg(test)]
 mod tests {
     use super::*;
-    use crate::compare::tally::Tally;
+    use crate::questions::suites_checked::{assert_each_meets, assert_same_cases};
     use crate::questions::Question;
 
     /// The answers that each suite must meet, and how often at least.
@@ -78,21 +78,12 @@ mod tests {
 
     #[test]
     fn suites_meet_each_answer_they_can() {
-        let suites = reading_suites();
-        assert_eq!(suites.len(), MET.len());
-        for (Suite { name, cases, .. }, (labels, at_least)) in suites.iter().zip(MET) {
-            let tally = Tally::of(cases);
-            for label in labels {
-                assert!(tally.count(label) >= at_least, "{name}: {tally}");
-            }
-        }
+        assert_each_meets(&reading_suites(), &MET);
     }
 
     #[test]
     fn every_run_asks_the_same_cases() {
-        for (once, again) in reading_suites().iter().zip(reading_suites()) {
-            assert!(once.cases == again.cases, "{}", once.name);
-        }
+        assert_same_cases(&reading_suites(), &reading_suites());
     }
 
     #[test]
