@@ -8,7 +8,7 @@ use native.Mathlib.Decide.{decLe}
 use native.Mathlib.Omega.{arith}
 use native.Mathlib.Numerals.{sub-one}
 use lib.ListN.{length, getD, take, drop, set, replicate, drop-of-length-le, length-set}
-use lib.Seq.{drop-cons, take-suc-set, drop-set-lt, getD-set-same}
+use lib.Seq.{drop-cons, take-suc-set, drop-set-lt, getD-set-same, set-set}
 use borrow.Author.Tests.{le-leb, lt-leb}
 use Rattle.number.specs.Groups.{Gathering, before, gather, follows, group, mostGroups, radix}
 use Rattle.number.specs.Groups.Gathering.{whole, cut, long}
@@ -102,47 +102,52 @@ module _ (bytes groups : List ℕ) (n : ℕ) (g : Gathers bytes groups n) (below
     abbrev pub byte : ℕ
     byte = getD bytes n 0
 
-    abbrev pub stored : List ℕ
-    stored = set groups n (byte % radix)
-
     behind : drop (suc n) groups ≡ replicate (mostGroups - suc n) 0
     behind =
         let front : getD groups n 0 ∷ drop (suc n) groups ≡ 0 ∷ replicate (mostGroups - suc n) 0 =
         sym (drop-cons groups n 0 here) ∙ g .came .zeros ∙ rw left in
         cc
 
-    -- the group is stored, and what lies behind it is still zero
-    stored-came : Came (suc n) stored
-    stored-came =
+    -- a group is stored, and what lies behind it is still zero
+    stored-came : (x : ℕ) → Came (suc n) (set groups n x)
+    stored-came x =
         record {
           within = omega arith;
-          room = length-set groups n (byte % radix) ∙ g .came .room;
-          zeros = drop-set-lt (suc n) groups n (byte % radix) (omega arith) ∙ behind;
+          room = length-set groups n x ∙ g .came .room;
+          zeros = drop-set-lt (suc n) groups n x (omega arith) ∙ behind;
         }
 
-    pub stored-counted : Counted (suc n) (byte % radix) stored
-    stored-counted = record { came = stored-came; at-last = rw (sub-one (suc n)) (getD-set-same groups n (byte % radix) 0 here) }
+    pub stored-counted : (x : ℕ) → Counted (suc n) x (set groups n x)
+    stored-counted x = record { came = stored-came x; at-last = rw (sub-one (suc n)) (getD-set-same groups n x 0 here) }
 
-    pub last-is : byte < radix → gather mostGroups bytes ≡ whole (take (suc n) stored)
-    last-is h =
+    pub last-is : (x : ℕ) → x ≡ byte % radix → byte < radix → gather mostGroups bytes ≡ whole (take (suc n) (set groups n x))
+    last-is x e h =
         g .whole-is
-        ∙ rw (left, drop-cons bytes n 0 more-bytes, gather-last (mostGroups - suc n) (getD bytes n 0) (drop (suc n) bytes) h)
-        (prepend-whole (take n groups) (getD bytes n 0 % radix ∷ [])
-        ∙ ap whole (sym (take-suc-set groups n (getD bytes n 0 % radix) here)))
+        ∙ rw (
+          left,
+          drop-cons bytes n 0 more-bytes,
+          gather-last (mostGroups - suc n) (getD bytes n 0) (drop (suc n) bytes) h,
+          sym e,
+        )
+        (prepend-whole (take n groups) (x ∷ [])
+        ∙ ap whole (sym (take-suc-set groups n x here)))
 
-    pub turn : radix ≤ byte → Gathers bytes stored (suc n)
-    turn h =
+    -- what was stored before the group does not matter
+    pub turn : (x y : ℕ) → x ≡ byte % radix → radix ≤ byte → Gathers bytes (set (set groups n y) n x) (suc n)
+    turn x y e h =
+        rw (set-set groups n y x)
         record {
-          came = stored-came;
+          came = stored-came x;
           whole-is =
               g .whole-is
               ∙ rw (
                 left,
                 drop-cons bytes n 0 more-bytes,
                 gather-more (mostGroups - suc n) (getD bytes n 0) (drop (suc n) bytes) h,
-                take-suc-set groups n (getD bytes n 0 % radix) here,
+                sym e,
+                take-suc-set groups n x here,
               )
-              (sym (prepend-one (take n groups) (getD bytes n 0 % radix) (gather (mostGroups - suc n) (drop (suc n) bytes))));
+              (sym (prepend-one (take n groups) x (gather (mostGroups - suc n) (drop (suc n) bytes))));
         }
 
 pub more-is : (bytes groups : List ℕ) (n : ℕ) → Gathers bytes groups n → mostGroups ≤ n → gather mostGroups bytes ≡ long

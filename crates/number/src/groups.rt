@@ -1,11 +1,11 @@
 // The groups of one number: gathered into an array first, its value formed from them afterwards.
 ghost use mathlib.Core.Path.{_≡_};
 ghost use Prim.Native.Nat.{_+_, _^_, _<_};
-ghost use lib.ListN.{length, take, replicate};
+ghost use lib.ListN.{take, replicate};
 ghost use Rattle.number.specs.Groups.{gather as Groups·gather, value, mostGroups};
 ghost use Rattle.number.specs.Reading.{from, formed};
 ghost use Rattle.number.specs.Answers.{said};
-ghost use Rattle.number.specs.Inside.{AreGroups, Counted, gathered, counted};
+ghost use Rattle.number.specs.Inside.{AreGroups, Came, Counted, gathered, counted};
 use crate::Number;
 
 // A group has seven bits. A byte of so much or more says that another group follows.
@@ -21,8 +21,8 @@ pub(crate) enum Ending {
     More,
 }
 
-// Gathers the groups at the front of the bytes, up to the first that says none follows. The groups
-// that do not come stay zero.
+// Gathers the groups at the front of the bytes, up to the first that says none follows: that one is
+// its byte, and the others are theirs without the top bit. The groups that do not come stay zero.
 pub(crate) fn gather(bytes: &[u8], groups: &mut [u64; Number::GROUPS]) -> Ending
     requires { ⌜ now groups ≡ replicate mostGroups 0 ⌝ }
     ensures { λ r. ⌜ gathered r (now (groups .exit)) ≡ Groups·gather mostGroups (now (bytes .entry)) ⌝ }
@@ -34,12 +34,15 @@ pub(crate) fn gather(bytes: &[u8], groups: &mut [u64; Number::GROUPS]) -> Ending
             return Ending::Cut;
         }
         let byte = bytes[n] as u64;
-        let group = byte % RADIX;
-        groups[n] = group;
-        n += 1;
+        groups[n] = byte;
         if byte < RADIX {
-            return Ending::Last { count: n, group };
+            return Ending::Last {
+                count: n + 1,
+                group: byte,
+            };
         }
+        groups[n] = byte - RADIX;
+        n += 1;
     }
     Ending::More
 }
@@ -57,7 +60,7 @@ pub(crate) fn form(groups: &[u64; Number::GROUPS], count: usize, group: u64, at:
             return Number::NotShortest;
         }
     }
-    let value = value_of(groups);
+    let value = value_of(groups, count);
     if Number::LARGEST < value {
         return Number::TooLarge;
     }
@@ -67,17 +70,23 @@ pub(crate) fn form(groups: &[u64; Number::GROUPS], count: usize, group: u64, at:
     }
 }
 
-// The value of the groups. Those that did not come are zero and add nothing.
-fn value_of(groups: &[u64; Number::GROUPS]) -> u64
-    requires { ⌜ length (now groups) ≡ mostGroups ⌝ }
+// The value of the groups, of which the first count came. Those that did not come are zero and add
+// nothing, so forming ends with the last that came.
+fn value_of(groups: &[u64; Number::GROUPS], count: usize) -> u64
+    requires { ⌜ Came count (now groups) ⌝ }
     requires { ⌜ AreGroups (now groups) ⌝ }
     ensures { λ r. ⌜ r ≡ value (now (groups .entry)) ⌝ }
 {
     let mut value = 0;
-    let mut i = Number::GROUPS;
-    while 0 < i {
-        i -= 1;
-        value = value * RADIX + groups[i];
+    let mut weight = 1;
+    let mut i = 0;
+    while i < Number::GROUPS {
+        value += groups[i] * weight;
+        i += 1;
+        if count <= i {
+            return value;
+        }
+        weight *= RADIX;
     }
     value
 }

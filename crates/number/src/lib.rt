@@ -46,7 +46,7 @@ impl Number {
 pub fn read_at(file: &[u8], at: usize) -> Number
     ensures { λ r. ⌜ said r ≡ readAt (now (file .entry)) at ⌝ }
 {
-    if file.len() < at {
+    if file.len() <= at {
         return Number::Ends;
     }
     let mut groups = [0u64; Number::GROUPS];

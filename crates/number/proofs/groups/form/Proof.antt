@@ -30,7 +30,7 @@ returns c =
     sym (ap (from (s .args .at)) (zero-last (s .args .count) (s .args .group) (now (s .args .groups)) (s .pre .0) (omega arith) (c .if2 .taken)))
 
 value-of-requires : tie.Need-value-of-requires
-value-of-requires c κs = (c .before .pre .0 .came .room, all-groups _ _ _ (c .before .pre .0) (c .before .pre .1 .0))
+value-of-requires c κs = (c .before .pre .0 .came, all-groups _ _ _ (c .before .pre .0) (c .before .pre .1 .0))
 
 returns-2 : tie.Need-returns-2
 returns-2 c =

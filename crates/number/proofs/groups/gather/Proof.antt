@@ -35,16 +35,25 @@ mul-groups c = omega arith
 element-write-groups : tie.Need-element-write-groups Inv-loop μ-loop
 element-write-groups c = omega arith
 
-add-n : tie.Need-add-n Inv-loop μ-loop
-add-n c = omega arith
+add-t11 : tie.Need-add-t11 Inv-loop μ-loop
+add-t11 c = omega arith
 
 returns-2 : tie.Need-returns-2 Inv-loop μ-loop
 returns-2 c =
     let p = c .before .before .before .before .loop in
     rw add-one (
-      sym (last-is _ (p .groups) (p .n) (p .inv) (omega arith) (omega arith) (c .if2 .taken)),
-      stored-counted _ (p .groups) (p .n) (p .inv) (omega arith) (omega arith),
+      sym (last-is _ (p .groups) (p .n) (p .inv) (omega arith) (omega arith) _ (omega arith) (c .if2 .taken)),
+      stored-counted _ (p .groups) (p .n) (p .inv) (omega arith) (omega arith) _,
     )
+
+mul-groups-2 : tie.Need-mul-groups-2 Inv-loop μ-loop
+mul-groups-2 c = omega arith
+
+element-write-groups-2 : tie.Need-element-write-groups-2 Inv-loop μ-loop
+element-write-groups-2 c = omega arith
+
+add-n : tie.Need-add-n Inv-loop μ-loop
+add-n c = omega arith
 
 loop-less : tie.Need-loop-less Inv-loop μ-loop
 loop-less c = omega arith
@@ -52,7 +61,7 @@ loop-less c = omega arith
 loop-again : tie.Need-loop-again Inv-loop μ-loop
 loop-again c =
     let p = c .before .before .before .before .loop in
-    rw add-one (turn _ (p .groups) (p .n) (p .inv) (omega arith) (omega arith) (c .if2 .left))
+    rw add-one (turn _ (p .groups) (p .n) (p .inv) (omega arith) (omega arith) _ _ (omega (arith, c .before .shared-slice-known .given (p .n))) (c .if2 .left))
 
 returns-3 : tie.Need-returns-3 Inv-loop μ-loop
 returns-3 c =
@@ -71,8 +80,11 @@ gather-spec =
     cast-byte
     mul-groups
     element-write-groups
-    add-n
+    add-t11
     returns-2
+    mul-groups-2
+    element-write-groups-2
+    add-n
     loop-less
     loop-again
     returns-3)
