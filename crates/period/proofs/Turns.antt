@@ -1,20 +1,24 @@
 -- A segment's turn in the tables: the plants of its set go on to the next segment, or into the store.
-use Prim.Native.Nat.{ℕ, suc, _-_, _<_}
+use Prim.Native.Nat.{ℕ, suc, _-_, _≤_, _<_}
 use mathlib.Core.Path.{_≡_, refl, sym, ap, _∙_}
 use mathlib.Core.Bool.{Bool, true, false, cond, _&&_, and-false}
 use mathlib.Core.List.{List}
 use mathlib.Core.Logic.{⊎-elim}
+use native.Mathlib.Nat.{le-trans}
 use native.Mathlib.Omega.{arith}
 use lib.Bits.{bitOr}
 use lib.Dec.{eqb, eqb·zero-suc, eqb·suc-zero, eqb·suc-suc}
 use lib.ListN.{length, take, getD, set, length-set}
 use lib.Seq.{getD-take, getD-set-same, getD-set-other}
 use borrow.Author.Tests.{eqb-true, eqb-false}
+use Rattle.number.specs.Groups.{largest}
 use Rattle.records.specs.declared.segment.Segment.{Segment}
 use Rattle.records.specs.Plants.{mostPlants}
 use Rattle.records.specs.Segments.{mostSegments}
 use Rattle.records.specs.Within.{SegmentWithin}
-use Rattle.period.specs.Inside.{Sized, cell, hasPlant, Sent, Stored, Moved}
+use Rattle.period.specs.Walk.{sum, credits}
+use Rattle.period.specs.Inside.{Small, Sized, cell, hasPlant, Sent, Stored, Moved}
+use Rattle.period.proofs.Credits.{part-of-sum, credited-most}
 
 -- the credits stand at the front of an array
 module _ (plants members : ℕ) (array credited : List ℕ) (front : take plants array ≡ credited) where
@@ -77,3 +81,10 @@ next-below own segment within = ⊎-elim (λ none. omega (arith, none)) (λ some
 -- what is not 0 is above it
 pub above-none : (n : ℕ) → eqb n 0 ≡ false → 0 < n
 above-none n e = let some = eqb-false n 0 e in omega (arith, some)
+
+-- no credit is over the largest amount where the inflow is not
+pub credits-small :
+    (plants : ℕ) (array : List ℕ) (outflow : ℕ) (entering : List ℕ) → take plants array ≡ credits outflow entering →
+    outflow ≤ sum entering → sum entering ≤ largest → Small (take plants array)
+credits-small plants array outflow entering front out fits i =
+    rw front (le-trans (credited-most outflow entering i out) (le-trans (part-of-sum entering i) fits))

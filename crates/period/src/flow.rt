@@ -15,6 +15,7 @@ ghost use Rattle.period.specs.Inside.{
   hasPlant,
   Sent,
   Sized,
+  Small,
   Started,
   Stored,
   Worked,
@@ -33,7 +34,7 @@ pub(crate) enum Turn {
 
 // Puts every plant's export at its first segment, and the plant into that segment's set.
 pub(crate) fn start(
-    amounts: &mut [[u64; Segment::MOST]; Plant::MOST],
+    amounts: &mut [[u32; Segment::MOST]; Plant::MOST],
     sets: &mut [u64; Segment::MOST],
     plants: [Plant; Plant::MOST],
     count: usize,
@@ -48,7 +49,7 @@ pub(crate) fn start(
     while p < count {
         let plant = plants[p];
         let first = plant.first as usize - 1;
-        amounts[p][first] = plant.exported as u64;
+        amounts[p][first] = plant.exported;
         sets[first] |= 1 << p;
         p += 1;
     }
@@ -56,7 +57,7 @@ pub(crate) fn start(
 
 // Works one segment, with its emission: tests it, and sends the plants of its set on with their credits.
 pub(crate) fn work(
-    amounts: &mut [[u64; Segment::MOST]; Plant::MOST],
+    amounts: &mut [[u32; Segment::MOST]; Plant::MOST],
     sets: &mut [u64; Segment::MOST],
     stored: &mut [u64; Plant::MOST],
     plants: usize,
@@ -104,7 +105,7 @@ pub(crate) fn work(
 }
 
 // "Inflow A is the sum over the plants whose route passes"; all others have 0 there.
-fn inflow_of(amounts: &[[u64; Segment::MOST]; Plant::MOST], plants: usize, s: usize) -> u64
+fn inflow_of(amounts: &[[u32; Segment::MOST]; Plant::MOST], plants: usize, s: usize) -> u64
     requires { ⌜ plants ≤ mostPlants ⌝ }
     requires { ⌜ s < mostSegments ⌝ }
     requires { ⌜ Sized (now amounts) ⌝ }
@@ -114,7 +115,7 @@ fn inflow_of(amounts: &[[u64; Segment::MOST]; Plant::MOST], plants: usize, s: us
     let mut inflow = 0;
     let mut p = 0;
     while p < plants {
-        inflow += amounts[p][s];
+        inflow += amounts[p][s] as u64;
         p += 1;
     }
     inflow
@@ -122,7 +123,7 @@ fn inflow_of(amounts: &[[u64; Segment::MOST]; Plant::MOST], plants: usize, s: us
 
 // "With the plants in rising number": every plant's credit, by the running sums of the amounts.
 fn credits(
-    amounts: &[[u64; Segment::MOST]; Plant::MOST],
+    amounts: &[[u32; Segment::MOST]; Plant::MOST],
     plants: usize,
     s: usize,
     inflow: u64,
@@ -142,7 +143,7 @@ fn credits(
     let mut shared = 0;
     let mut p = 0;
     while p < plants {
-        so_far += amounts[p][s];
+        so_far += amounts[p][s] as u64;
         let part = rounded_down(so_far * outflow, inflow);
         credits[p] = part - shared;
         shared = part;
@@ -176,7 +177,7 @@ fn store(stored: &mut [u64; Plant::MOST], plants: usize, set: u64, credits: [u64
 
 // "At each later segment of its route it is what the segment before credited", for the plants of a set.
 fn send(
-    amounts: &mut [[u64; Segment::MOST]; Plant::MOST],
+    amounts: &mut [[u32; Segment::MOST]; Plant::MOST],
     plants: usize,
     set: u64,
     credits: [u64; Plant::MOST],
@@ -185,12 +186,13 @@ fn send(
     requires { ⌜ plants ≤ mostPlants ⌝ }
     requires { ⌜ next < mostSegments ⌝ }
     requires { ⌜ Sized (now amounts) ⌝ }
+    requires { ⌜ Small (take plants credits) ⌝ }
     ensures { λ _. ⌜ Sent plants set credits next (now (amounts .entry)) (now (amounts .exit)) ⌝ }
 {
     let mut p = 0;
     while p < plants {
         if has(set, p) {
-            amounts[p][next] = credits[p];
+            amounts[p][next] = credits[p] as u32;
         }
         p += 1;
     }

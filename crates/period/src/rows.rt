@@ -34,7 +34,7 @@ pub(crate) fn write_plants(
     table: &mut [u64],
     plants: [Plant; Plant::MOST],
     count: usize,
-    amounts: &[[u64; Segment::MOST]; Plant::MOST],
+    amounts: &[[u32; Segment::MOST]; Plant::MOST],
     stored: [u64; Plant::MOST],
     segments: usize,
     inflows: [u64; Segment::MOST],
@@ -53,7 +53,7 @@ pub(crate) fn write_plants(
 
 // "all its charges": what the segments charge to a plant for the amounts that it brings.
 fn charges(
-    amounts: [u64; Segment::MOST],
+    amounts: [u32; Segment::MOST],
     segments: usize,
     inflows: [u64; Segment::MOST],
     kg: [u64; Emissions::OWNERS],
@@ -66,7 +66,7 @@ fn charges(
     let mut charges = 0;
     let mut s = 0;
     while s < segments {
-        charges += rounded_up(amounts[s] * kg[Plant::MOST + s], inflows[s]);
+        charges += rounded_up(amounts[s] as u64 * kg[Plant::MOST + s], inflows[s]);
         s += 1;
     }
     charges

@@ -36,7 +36,7 @@ pub(crate) fn settle(
     requires { ⌜ Small kg ⌝ }
     ensures { λ r. ⌜ Settled (take «plant_count» plants) (take «segment_count» segments) kg (said r) (now («plant_table» .entry)) (now («plant_table» .exit)) (now («segment_table» .entry)) (now («segment_table» .exit)) ⌝ }
 {
-    let mut amounts = [[0u64; Segment::MOST]; Plant::MOST];
+    let mut amounts = [[0u32; Segment::MOST]; Plant::MOST];
     let mut sets = [0u64; Segment::MOST];
     let mut inflows = [0u64; Segment::MOST];
     let mut stored = [0u64; Plant::MOST];

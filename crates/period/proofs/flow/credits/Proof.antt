@@ -54,6 +54,9 @@ index-1-so-far c = omega arith
 index-2-so-far : tie.Need-index-2-so-far Inv-loop μ-loop
 index-2-so-far c = omega arith
 
+cast-so-far : tie.Need-cast-so-far Inv-loop μ-loop
+cast-so-far c = omega (arith, so-far-small (c .before))
+
 add-so-far : tie.Need-add-so-far Inv-loop μ-loop
 add-so-far c = omega (arith, so-far-small (c .before))
 
@@ -103,6 +106,7 @@ credits-spec =
     mul-so-far-2
     index-1-so-far
     index-2-so-far
+    cast-so-far
     add-so-far
     mul-rounded-down
     rounded-down-requires

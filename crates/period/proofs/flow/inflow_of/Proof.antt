@@ -44,6 +44,10 @@ index-1-inflow c = omega arith
 index-2-inflow : tie.Need-index-2-inflow Inv-loop μ-loop
 index-2-inflow c = omega arith
 
+cast-inflow : tie.Need-cast-inflow Inv-loop μ-loop
+unfolding sum
+cast-inflow c = omega (arith, rw (next (c .before)) at (c .before .before .loop .inv))
+
 add-inflow : tie.Need-add-inflow Inv-loop μ-loop
 unfolding sum
 add-inflow c = omega (arith, rw (next (c .before)) at (c .before .before .loop .inv))
@@ -75,6 +79,7 @@ inflow-of-spec =
     mul-inflow-2
     index-1-inflow
     index-2-inflow
+    cast-inflow
     add-inflow
     add-p
     loop-less

@@ -6,6 +6,7 @@ use mathlib.Core.Logic.{⊎-elim}
 use native.Mathlib.Omega.{arith}
 use lib.Dec.{eqb}
 use lib.ListN.{getD}
+use lib.Seq.{getD-take}
 use Rattle.period.specs.Inside.{Sized, cell, hasPlant}
 use Rattle.period.proofs.Cells.{Filled, none-yet, one-kept, put-sized, put-filled}
 use Rattle.period.proofs.flow.send.Statement.{statement}
@@ -21,7 +22,7 @@ abbrev μ-loop : tie.MeasureT-loop
 μ-loop amounts₀ plants set next credits p₀ amounts p = plants - p
 
 loop-holds : tie.Need-loop-holds Inv-loop μ-loop
-loop-holds c = (omega arith, c .pre .1 .1, λ s. none-yet (λ q. refl))
+loop-holds c = (omega arith, c .pre .1 .1 .0, λ s. none-yet (λ q. refl))
 
 has-requires : tie.Need-has-requires Inv-loop μ-loop
 has-requires c κs = omega arith
@@ -31,6 +32,12 @@ mul-amounts c = omega arith
 
 array-read-amounts : tie.Need-array-read-amounts Inv-loop μ-loop
 array-read-amounts c = omega arith
+
+cast-amounts : tie.Need-cast-amounts Inv-loop μ-loop
+cast-amounts c =
+    let start = c .before .before .before .before in
+    let p = c .before .before .before .loop .p in
+    omega (arith, rw (getD-take (start .args .plants) (start .args .t4) p 0 (omega arith)) at (start .pre .1 .1 .1 p))
 
 mul-amounts-2 : tie.Need-mul-amounts-2 Inv-loop μ-loop
 mul-amounts-2 c = omega arith
@@ -83,6 +90,7 @@ send-spec =
     has-requires
     mul-amounts
     array-read-amounts
+    cast-amounts
     mul-amounts-2
     mul-amounts-3
     index-1-amounts

@@ -41,9 +41,6 @@ cast-first c = omega arith
 sub-first : tie.Need-sub-first Inv-loop μ-loop
 sub-first c = omega (arith, within (c .before .before))
 
-cast-amounts : tie.Need-cast-amounts Inv-loop μ-loop
-cast-amounts c = omega arith
-
 mul-amounts : tie.Need-mul-amounts Inv-loop μ-loop
 mul-amounts c = omega arith
 
@@ -54,19 +51,19 @@ index-1-amounts : tie.Need-index-1-amounts Inv-loop μ-loop
 index-1-amounts c = omega arith
 
 index-2-amounts : tie.Need-index-2-amounts Inv-loop μ-loop
-index-2-amounts c = omega (arith, within (c .before .before .before))
+index-2-amounts c = omega (arith, within (c .before .before))
 
 shl-sets : tie.Need-shl-sets Inv-loop μ-loop
 shl-sets c = omega arith
 
 mul-sets : tie.Need-mul-sets Inv-loop μ-loop
-mul-sets c = omega (arith, within (c .before .before .before))
+mul-sets c = omega (arith, within (c .before .before))
 
 element-copy-out-sets : tie.Need-element-copy-out-sets Inv-loop μ-loop
-element-copy-out-sets c = omega (arith, within (c .before .before .before))
+element-copy-out-sets c = omega (arith, within (c .before .before))
 
 element-write-sets : tie.Need-element-write-sets Inv-loop μ-loop
-element-write-sets c = omega (arith, within (c .before .before .before .before))
+element-write-sets c = omega (arith, within (c .before .before .before))
 
 add-p : tie.Need-add-p Inv-loop μ-loop
 add-p c = omega arith
@@ -76,8 +73,8 @@ loop-less c = omega arith
 
 loop-again : tie.Need-loop-again Inv-loop μ-loop
 loop-again c =
-    let l = c .before .before .before .before .before .loop in
-    (omega arith, one-started _ (l .inv .1) (omega arith) (omega arith) (within (c .before .before .before .before)))
+    let l = c .before .before .before .before .loop in
+    (omega arith, one-started _ (l .inv .1) (omega arith) (omega arith) (within (c .before .before .before)))
 
 returns : tie.Need-returns Inv-loop μ-loop
 returns c =
@@ -97,7 +94,6 @@ start-spec =
     array-copy-out-plant
     cast-first
     sub-first
-    cast-amounts
     mul-amounts
     mul-amounts-2
     index-1-amounts

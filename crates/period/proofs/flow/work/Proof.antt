@@ -10,7 +10,7 @@ use borrow.Author.Needs.{needs}
 use borrow.Author.Tests.{eqb-true}
 use Rattle.period.specs.Inside.{accountBy}
 use Rattle.period.proofs.Tests.{inflow-refused, outflow-refused, emission-refused, segment-passes}
-use Rattle.period.proofs.Turns.{moved-to-store, moved-on, next-below, above-none}
+use Rattle.period.proofs.Turns.{moved-to-store, moved-on, next-below, above-none, credits-small}
 use Rattle.period.proofs.flow.work.Statement.{statement}
 use Rattle.period.proofs.flow.work.Tie as tie
 
@@ -69,7 +69,18 @@ sub-send c = search needs
 send-requires : tie.Need-send-requires
 send-requires c κs =
     let start = c .before .before .before .before .before .before .before .before .before .before .before .before in
-    (start .pre .0, (next-below (suc (start .args .s)) (start .args .segment) (start .pre .1 .1 .0), start .pre .1 .1 .1 .0))
+    let inflow = c .before .before .before .before .before .before .before .before .before .inflow-of in
+    let credits = c .before .before .before .before .credits in (
+      start .pre .0,
+      (
+        next-below (suc (start .args .s)) (start .args .segment) (start .pre .1 .1 .0),
+        (
+          start .pre .1 .1 .1 .0,
+          credits-small (start .args .plants) (credits .result) (start .args .segment .outflow) _ (credits .ensures)
+              (rw (inflow .ensures) at (c .before .before .before .before .before .before .before .if2 .left)) (rw (inflow .ensures) at (c .before .before .before .before .before .before .before .before .if1 .left)),
+        ),
+      ),
+    )
 
 sub-sets : tie.Need-sub-sets
 sub-sets c = search needs

@@ -26,6 +26,11 @@ mul-rounded-up c = omega arith
 array-read-rounded-up : tie.Need-array-read-rounded-up Inv-loop μ-loop
 array-read-rounded-up c = omega arith
 
+cast-rounded-up : tie.Need-cast-rounded-up Inv-loop μ-loop
+cast-rounded-up c =
+    let chargeable = c .before .before .pre .1 (c .before .loop .s) (c .loop-test .taken) in
+    omega (arith, chargeable .0, chargeable .1)
+
 add-rounded-up : tie.Need-add-rounded-up Inv-loop μ-loop
 add-rounded-up c = omega arith
 
@@ -78,6 +83,7 @@ charges-spec =
     loop-holds
     mul-rounded-up
     array-read-rounded-up
+    cast-rounded-up
     add-rounded-up
     mul-rounded-up-2
     array-read-rounded-up-2
