@@ -7,10 +7,10 @@ use lib.ListN.{length, take, drop, replicate, length-append, length-drop, length
 use lib.Seq.{length-take-le, length-front, take-at}
 use Rattle.records.specs.Plants.{mostPlants}
 use Rattle.records.specs.Segments.{mostSegments}
-use Rattle.period.specs.Order.{Answer, refusal, accepted, plantNumbers, segmentNumbers}
-use Rattle.period.specs.Quantified.{quantified}
+use Rattle.accounts.specs.Order.{Answer, refusal, accepted, plantNumbers, segmentNumbers}
+use Rattle.accounts.specs.Quantified.{quantified}
+use Rattle.accounts.proofs.Room.{room-enough}
 use Rattle.period.specs.Written.{overwritten, plantsAfter, segmentsAfter, plantsWritten, segmentsWritten}
-use Rattle.period.proofs.Room.{room-enough}
 use Rattle.historian.specs.Tables.{numberBytes, eightBytes, wholeNumbers, answerTo, bytesOverwritten, plantBytesAfter, segmentBytesAfter}
 
 -- ---- a table is lent: the part with room for so many numbers, of one that has the most

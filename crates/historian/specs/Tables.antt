@@ -3,8 +3,8 @@
 use Prim.Native.Nat.{ℕ, zero, suc, _*_, _/_, _%_}
 use mathlib.Core.List.{List, [], _∷_, _++_, flatMap}
 use lib.ListN.{length, drop}
-use Rattle.period.specs.Order.{Answer, refusal, accepted}
-use Rattle.period.specs.Quantified.{quantified}
+use Rattle.accounts.specs.Order.{Answer, refusal, accepted}
+use Rattle.accounts.specs.Quantified.{quantified}
 
 -- The bytes of a number, and the values that a byte has.
 abbrev pub numberBytes : ℕ

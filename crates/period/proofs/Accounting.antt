@@ -20,15 +20,15 @@ use Rattle.records.specs.Periods.{Period}
 use Rattle.records.specs.Within.{Each, PlantWithin, SegmentWithin}
 use Rattle.records.specs.Answers.{Verdict, accepts, refuses}
 use Rattle.records.proofs.Within.{each-on}
-use Rattle.period.specs.Walk.{starting, sum, credits, turns, arrived}
-use Rattle.period.specs.Accounts.{account}
-use Rattle.period.specs.Rows.{plantRows, segmentRows}
-use Rattle.period.specs.Order.{Answer, refusal, accepted, Test, tested, segmentTests, plantNumbers, segmentNumbers, tableTests}
-use Rattle.period.specs.Quantified.{accountsOf, rows}
+use Rattle.accounts.specs.Walk.{starting, sum, credits, turns, arrived}
+use Rattle.accounts.specs.Accounts.{account}
+use Rattle.accounts.specs.Rows.{plantRows, segmentRows}
+use Rattle.accounts.specs.Order.{Answer, refusal, accepted, Test, tested, segmentTests, plantNumbers, segmentNumbers, tableTests}
+use Rattle.accounts.specs.Quantified.{accountsOf, rows}
+use Rattle.accounts.proofs.Credits.{sum-most}
 use Rattle.period.specs.Inside.{Passes, Refuses, Small, KgOf, column, accountBy, Started, Moved, PlantsWritable, SegmentsWritable, plantRowsBy, segmentRowsBy, Settled, Finished, periodOf, settled}
 use Rattle.period.proofs.Books.{segment-rows, segment-rows-long, plant-rows, plant-rows-long, stored-most, chargeable}
 use Rattle.period.proofs.Columns.{column-at, column-length}
-use Rattle.period.proofs.Credits.{sum-most}
 use Rattle.period.proofs.Steps.{brings-most}
 use Rattle.period.proofs.Turning.{after, after-length, at, AtTurn, at-start, refused, on-turn, plant-within, segment-within}
 

@@ -1,15 +1,12 @@
 -- The call, step by step: what reading, the lines and the settling come to is the answer of the definitions.
-use Prim.Native.Nat.{ℕ, suc, _-_, _*_, _≤_}
+use Prim.Native.Nat.{ℕ, _-_, _*_, _≤_}
 use mathlib.Core.Path.{_≡_, refl, sym, ap, _∙_}
-use mathlib.Core.Bool.{Bool, true, false, cond, true≢false}
-use mathlib.Core.List.{List, [], _∷_, _++_, map}
+use mathlib.Core.Bool.{Bool, true, false, cond}
+use mathlib.Core.List.{List, [], _∷_, _++_}
 use native.Mathlib.Nat.{le-trans}
-use native.Mathlib.Omega.{arith}
-use lib.ListN.{length, length-map, take, replicate}
+use lib.ListN.{length, take, replicate}
 use lib.Seq.{take-append-seam}
 use Rattle.records.specs.declared.answer.Answer.{Answer as Told}
-use Rattle.records.specs.declared.line.Line.{Line}
-use Rattle.records.specs.declared.plant.Plant.{Plant}
 use Rattle.records.specs.declared.reading.Reading.{Reading}
 use Rattle.records.specs.Plants.{mostPlants, noPlant}
 use Rattle.records.specs.Segments.{mostSegments, noSegment}
@@ -19,17 +16,17 @@ use Rattle.records.specs.Periods.{Period, periodFile}
 use Rattle.records.specs.Within.{Each, PlantWithin, SegmentWithin, LineWithin, Within}
 use Rattle.records.specs.Answers.{Verdict, accepts, refuses, said}
 use Rattle.records.specs.Held.{verdictOf as verdictOfReading, recordsOf, filled, Held}
+use Rattle.records.proofs.Verdicts.{refuses-not-accepts}
 use Rattle.records.proofs.Within.{each-on, read-within}
+use Rattle.accounts.specs.Rows.{plantRows, segmentRows}
+use Rattle.accounts.specs.Order.{Answer, refusal, accepted, Test, tested, lineTests, segmentTests, plantNumbers, segmentNumbers, tableTests}
+use Rattle.accounts.specs.Quantified.{accountsOf, stores, rows, judged, afterReading, quantified}
+use Rattle.accounts.proofs.Accepting.{accounts-length}
+use Rattle.accounts.proofs.RowsAt.{stores-length, plant-rows-long, segment-rows-long}
 use Rattle.period.specs.declared.call.Quantified.{Quantified}
 use Rattle.period.specs.declared.emissions.Emissions.{Emissions}
-use Rattle.period.specs.Walk.{Standing, starting, turns, arrived}
-use Rattle.period.specs.Accounts.{Account, account}
-use Rattle.period.specs.Rows.{plantRows, segmentRows}
-use Rattle.period.specs.Order.{Answer, refusal, accepted, Test, tested, lineTests, segmentTests, plantNumbers, segmentNumbers, tableTests}
-use Rattle.period.specs.Quantified.{started, accountsOf, rows, judged, afterReading, quantified}
 use Rattle.period.specs.Written.{verdictOf, plantsAfter, segmentsAfter, plantsWritten, segmentsWritten, Answers}
 use Rattle.period.specs.Inside.{Passes, Small, AddedUp, Finished, settled, Settled, nothing}
-use Rattle.period.proofs.Walks.{arrived-length, turns-length}
 
 -- what the call promises, of what it hands back and of the tables before and after
 abbrev Answered : Quantified → Answer → (plants plants' segments segments' : List ℕ) → Type 0
@@ -45,13 +42,6 @@ refused-answer told (refusal number place) plants plants' segments segments' not
 refused-answer told (accepted rows' rows'') plants plants' segments segments' not finished = absurd (not (finished .0))
 
 -- ---- acceptance writes the rows
-refused-not-accepting : {number place : ℕ} → refuses number place ≡ accepts → ⊥
-refused-not-accepting e = true≢false (ap is-refusal e)
-  where
-    is-refusal : Verdict → Bool
-    is-refusal accepts = false
-    is-refusal (refuses number place) = true
-
 -- tests that accept leave the answer as it is
 accepted-tested :
     (tests : List Test) (plants segments : List ℕ) → accepts ≡ verdictOf (tested tests (accepted plants segments)) →
@@ -64,22 +54,8 @@ accepted-tested (test ∷ tests) plants segments e = by-test (test .fails) (acce
         (b : Bool) → (accepts ≡ verdictOf (tested tests (accepted plants segments)) → tested tests (accepted plants segments) ≡ accepted plants segments) →
         accepts ≡ verdictOf (cond b (refusal (test .number) (test .place)) (tested tests (accepted plants segments))) →
         cond b (refusal (test .number) (test .place)) (tested tests (accepted plants segments)) ≡ accepted plants segments
-    by-test true then e' = absurd (refused-not-accepting (sym e'))
+    by-test true then e' = absurd (refuses-not-accepts (sym e'))
     by-test false then e' = then e'
-
-plant-rows-long :
-    (lines : List Line) (accounts : List Account) (index : ℕ) (plants : List Plant) (end : List Standing) → length end ≡ length plants →
-    length (plantRows lines accounts index plants end) ≡ plantNumbers * length plants
-unfolding plantRows
-plant-rows-long lines accounts index [] end same = refl
-plant-rows-long lines accounts index (plant ∷ plants) [] same = absurd (omega (arith, same))
-plant-rows-long lines accounts index (plant ∷ plants) (standing ∷ end) same =
-    let others = plant-rows-long lines accounts (suc index) plants end (omega (arith, same)) in omega (arith, others)
-
-segment-rows-long : (accounts : List Account) → length (segmentRows accounts) ≡ segmentNumbers * length accounts
-unfolding segmentRows
-segment-rows-long [] = refl
-segment-rows-long (a ∷ accounts) = omega (arith, segment-rows-long accounts)
 
 accepted-answer :
     (period : Period) (told : Told) (plantTable plantTable' segmentTable segmentTable' : List ℕ) → said told ≡ accepts →
@@ -87,20 +63,18 @@ accepted-answer :
     Answered
     (record { answer = told; «plant_numbers» = plantNumbers * length (period .plants); «segment_numbers» = segmentNumbers * length (period .segments) })
     (settled period (length plantTable) (length segmentTable)) plantTable plantTable' segmentTable segmentTable'
-unfolding rows accountsOf
+unfolding rows
 accepted-answer period told plantTable plantTable' segmentTable segmentTable' accepting finished =
-    let accounts = map (account (period .lines)) (turns 1 (period .segments) (started period)) in
-    let plants = plantRows (period .lines) accounts 0 (period .plants) (arrived 1 (period .segments) (started period)) in
+    let accounts = accountsOf period in
+    let plants = plantRows (period .lines) accounts 0 (period .plants) (stores period) in
     let is : settled period (length plantTable) (length segmentTable) ≡ accepted plants (segmentRows accounts) =
     accepted-tested (segmentTests accounts ++ tableTests (length (period .plants)) (length (period .segments)) (length plantTable) (length segmentTable))
     plants (segmentRows accounts) (sym accepting ∙ finished .0) in (
       record {
         verdict = finished .0;
         plants = sym (ap plantsWritten is
-            ∙ plant-rows-long (period .lines) accounts 0 (period .plants) (arrived 1 (period .segments) (started period))
-            (arrived-length 1 (period .segments) (started period) ∙ length-map (period .plants) starting));
-        segments = sym (ap segmentsWritten is ∙ segment-rows-long accounts
-            ∙ ap (λ (n : ℕ). segmentNumbers * n) (length-map (turns 1 (period .segments) (started period)) (account (period .lines)) ∙ turns-length 1 (period .segments) (started period)));
+            ∙ plant-rows-long (period .lines) accounts 0 (period .plants) (stores period) (stores-length period));
+        segments = sym (ap segmentsWritten is ∙ segment-rows-long accounts ∙ ap (λ (n : ℕ). segmentNumbers * n) (accounts-length period));
       },
       (finished .1, finished .2),
     )
@@ -140,14 +114,14 @@ module _ (file : List ℕ) (r : Reading) (held : Held r (periodFile file)) where
             (outcome : Read Period) → accepts ≡ verdictOfReading outcome →
             afterReading outcome plantTable segmentTable ≡ judged (recordsOf outcome) (accountsOf (recordsOf outcome)) plantTable segmentTable
         by-outcome (read period place rest) e = refl
-        by-outcome (refused number place) e = absurd (refused-not-accepting (sym e))
+        by-outcome (refused number place) e = absurd (refuses-not-accepts (sym e))
 
     within : Within period
     within = by-outcome (periodFile file) refl (sym accepting ∙ held .answer)
       where
         by-outcome : (outcome : Read Period) → periodFile file ≡ outcome → accepts ≡ verdictOfReading outcome → Within (recordsOf outcome)
         by-outcome (read period place rest) is e = read-within file period place rest is
-        by-outcome (refused number place) is e = absurd (refused-not-accepting (sym e))
+        by-outcome (refused number place) is e = absurd (refuses-not-accepts (sym e))
 
     plants-front : take (r .«plant_count») (r .plants) ≡ period .plants
     plants-front = front-is noPlant mostPlants (r .«plant_count») (period .plants) (r .plants) (held .plant-count) (held .plants)

@@ -13,15 +13,15 @@ use Rattle.records.specs.declared.plant.Plant.{Plant}
 use Rattle.records.specs.declared.segment.Segment.{Segment}
 use Rattle.records.specs.Plants.{mostPlants, noPlant}
 use Rattle.records.specs.Segments.{mostSegments, noSegment}
-use Rattle.period.specs.Emissions.{roundedUp}
-use Rattle.period.specs.Walk.{Standing, starting, brings, amounts, sum, Turn, turns, arrived}
-use Rattle.period.specs.Accounts.{Account, account, chargeTo, charges}
-use Rattle.period.specs.Rows.{plantRow, associated, plantRows, segmentRows}
-use Rattle.period.specs.Order.{plantNumbers, segmentNumbers}
-use Rattle.period.specs.Inside.{KgOf, cell, nowhere, Chargeable, chargesBy, plantRowsBy, segmentRowsBy}
-use Rattle.period.proofs.Credits.{part-of-sum}
+use Rattle.accounts.specs.Emissions.{roundedUp}
+use Rattle.accounts.specs.Walk.{Standing, starting, brings, amounts, sum, Turn, turns, arrived, nowhere}
+use Rattle.accounts.specs.Accounts.{Account, account, chargeTo, charges}
+use Rattle.accounts.specs.Rows.{plantRow, associated, plantRows, segmentRows}
+use Rattle.accounts.specs.Order.{plantNumbers, segmentNumbers}
+use Rattle.accounts.proofs.Credits.{part-of-sum}
+use Rattle.accounts.proofs.Walks.{getD-map, turns-length, turn-at}
+use Rattle.period.specs.Inside.{KgOf, cell, Chargeable, chargesBy, plantRowsBy, segmentRowsBy}
 use Rattle.period.proofs.Turning.{after, after-length, at, AtTurn}
-use Rattle.period.proofs.Walks.{getD-map, turns-length, turn-at}
 
 -- ---- how many numbers the rows have
 pub plant-rows-long :

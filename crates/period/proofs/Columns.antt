@@ -5,7 +5,7 @@ use mathlib.Core.List.{List, []}
 use lib.ListN.{length, getD, take, drop, length-map, drop-of-length-le, List·getD-map}
 use lib.Seq.{length-take-le, getD-take, drop-cons}
 use Rattle.period.specs.Inside.{cell, column}
-use Rattle.period.proofs.Credits.{Next}
+use Rattle.period.proofs.Crediting.{Next}
 
 module _ (plants s : ℕ) (table : List (List ℕ)) where
   -- it has an amount for each of the plants

@@ -5,8 +5,8 @@ use mathlib.Core.List.{List}
 use lib.ListN.{length}
 use Rattle.records.specs.declared.answer.Answer.{Answer as Told}
 use Rattle.records.proofs.Outcome.{said-once}
+use Rattle.accounts.specs.Quantified.{quantified}
 use Rattle.period.specs.declared.call.Quantified.{Quantified}
-use Rattle.period.specs.Quantified.{quantified}
 use Rattle.period.specs.Written.{plantsAfter, segmentsAfter, Answers}
 
 -- what the call hands back and leaves in the two tables, for a file and the tables as they were

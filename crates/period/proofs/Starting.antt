@@ -17,10 +17,10 @@ use Rattle.records.specs.Plants.{mostPlants, noPlant}
 use Rattle.records.specs.Segments.{mostSegments}
 use Rattle.records.specs.Within.{Each, PlantWithin}
 use Rattle.records.proofs.Within.{each-at}
-use Rattle.period.specs.Walk.{Standing, starting, passes, brings}
-use Rattle.period.specs.Accounts.{setOf}
-use Rattle.period.specs.Inside.{Sized, cell, nowhere, SetsHold, Started}
-use Rattle.period.proofs.Sets.{set-with, set-without}
+use Rattle.accounts.specs.Walk.{Standing, starting, passes, brings, nowhere}
+use Rattle.accounts.specs.Accounts.{setOf}
+use Rattle.accounts.proofs.Sets.{set-with, set-without}
+use Rattle.period.specs.Inside.{Sized, cell, SetsHold, Started}
 use Rattle.period.proofs.Cells.{Filled, none-yet, put-into, put, put-sized, put-filled}
 
 -- ---- before: no amounts, and no plants in the sets

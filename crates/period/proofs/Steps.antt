@@ -1,12 +1,11 @@
--- What a segment's turn does to one plant: to what it brings, to the set that it is in, and to where it may be.
-use Prim.Native.Nat.{ℕ, suc, _≤_, _<_}
+-- What a segment's turn does to one plant: to what it brings, to the set that it is in, and to how much it has.
+use Prim.Native.Nat.{ℕ, _≤_}
 use mathlib.Core.Path.{_≡_, refl, sym, _∙_}
 use mathlib.Core.Bool.{Bool, true, false, cond, _&&_, _||_}
-use mathlib.Core.Logic.{_⊎_, inl, inr, ⊎-elim}
 use native.Mathlib.Omega.{arith}
 use lib.Dec.{eqb}
 use borrow.Author.Tests.{eqb-true, eqb-false, eq-eqb, ne-eqb}
-use Rattle.period.specs.Walk.{Standing, passes, brings, sentOn}
+use Rattle.accounts.specs.Walk.{Standing, passes, brings, sentOn}
 
 -- the order of what is compared does not matter
 eqb-sym : (m n : ℕ) → eqb m n ≡ eqb n m
@@ -61,20 +60,7 @@ module _ (own next credit : ℕ) (standing : Standing) where
           rw off (eqb-sym next n ∙ itself (eqb n next))
       by-test false e = either (eqb n next) (passes n standing)
 
-  -- where it may be, with how much, after the turn of the segment at an index
-  pub may-be :
-      (s segments : ℕ) → suc s ≡ own → (next ≡ 0) ⊎ ((own < next) × (next ≤ segments)) →
-      (standing .before ≡ 0) ⊎ ((s < standing .before) × (standing .before ≤ segments)) →
-      (sent .before ≡ 0) ⊎ ((own < sent .before) × (sent .before ≤ segments))
-  may-be s segments number then now = by-test (passes own standing) refl
-    where
-      by-test :
-          (b : Bool) → passes own standing ≡ b →
-          (cond b (record { before = next; amount = credit }) standing .before ≡ 0)
-          ⊎ ((own < cond b (record { before = next; amount = credit }) standing .before) × (cond b (record { before = next; amount = credit }) standing .before ≤ segments))
-      by-test true e = then
-      by-test false e = ⊎-elim (λ none. inl none) (λ some. inr (let off = eqb-false (standing .before) own e in omega (arith, some .0, off, number), some .1)) now
-
+  -- how much it then has
   pub no-more : (most : ℕ) → credit ≤ standing .amount → standing .amount ≤ most → sent .amount ≤ most
   no-more most less few = by-test (passes own standing)
     where

@@ -1,7 +1,7 @@
 -- The tests of a segment and of the tables, in their order: what they come to, whatever tests follow.
 use Prim.Native.Nat.{ℕ, _*_, _≤_, _<_}
-use mathlib.Core.Path.{_≡_, refl, ap}
-use mathlib.Core.Bool.{Bool, true, false, cond, _&&_, and-false, true≢false}
+use mathlib.Core.Path.{_≡_, refl}
+use mathlib.Core.Bool.{Bool, true, false, cond, _&&_, and-false}
 use mathlib.Core.List.{List, [], _∷_}
 use mathlib.Core.Logic.{_⊎_, ⊎-elim}
 use native.Mathlib.Omega.{arith}
@@ -10,8 +10,9 @@ use borrow.Author.Tests.{lt-ltb, le-ltb, ltb-false, eq-eqb, ne-eqb}
 use Rattle.number.specs.Groups.{largest}
 use Rattle.records.specs.Answers.{accepts, refuses}
 use Rattle.records.specs.Refusals.{inflowTooLarge, outflowOverInflow, emissionWithoutInflow, plantTableShort, segmentTableShort}
-use Rattle.period.specs.Accounts.{Account}
-use Rattle.period.specs.Order.{Answer, refusal, accepted, Test, tested, segmentTests, plantNumbers, segmentNumbers, tableTests}
+use Rattle.accounts.specs.Accounts.{Account}
+use Rattle.accounts.specs.Order.{refusal, accepted, Test, tested, segmentTests, plantNumbers, segmentNumbers, tableTests}
+use Rattle.accounts.proofs.Testing.{refused-not-accepted}
 use Rattle.period.specs.Inside.{Passes}
 
 -- ---- the tests of one segment
@@ -50,13 +51,6 @@ module _ (a : Account) where
   segment-passes fits out or = λ rest answer. rw (le-ltb largest (a .inflow) fits, le-ltb (a .inflow) (a .outflow) out, charged or) refl
 
 -- ---- the tests of the tables
-refused-not-accepted : {number place : ℕ} {plants segments : List ℕ} → refusal number place ≡ accepted plants segments → ⊥
-refused-not-accepted e = true≢false (ap is-refusal e)
-  where
-    is-refusal : Answer → Bool
-    is-refusal (refusal number place) = true
-    is-refusal (accepted plants segments) = false
-
 module _ (plants segments plantTable segmentTable : ℕ) where
   abbrev table-tests : List Test
   table-tests = tableTests plants segments plantTable segmentTable

@@ -21,8 +21,8 @@ use Rattle.records.specs.Lines.{largestFactor, noLine}
 use Rattle.records.specs.Refusals.{tooManyGrams}
 use Rattle.records.specs.Within.{Each, LineWithin}
 use Rattle.records.proofs.Within.{each-at}
-use Rattle.period.specs.Emissions.{mostGrams, grams, ownedBy, gramsOf, gramsInKg, inKg, emission}
-use Rattle.period.specs.Order.{Answer, refusal, Test, tested, lineTests}
+use Rattle.accounts.specs.Emissions.{mostGrams, grams, ownedBy, gramsOf, gramsInKg, inKg, emission}
+use Rattle.accounts.specs.Order.{Answer, refusal, Test, tested, lineTests}
 use Rattle.period.specs.Inside.{ownerPlace, FewGrams, AddedUp}
 
 -- the places for plants and for segments

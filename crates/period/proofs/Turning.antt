@@ -20,15 +20,16 @@ use Rattle.records.specs.Segments.{mostSegments, noSegment}
 use Rattle.records.specs.Within.{Each, PlantWithin, SegmentWithin}
 use Rattle.records.specs.Answers.{Verdict, accepts, refuses}
 use Rattle.records.proofs.Within.{each-at}
-use Rattle.period.specs.Walk.{Standing, starting, passes, brings, amounts as entering, sum, credits, sentOn, passed, turns, arrived}
-use Rattle.period.specs.Accounts.{Account, setOf, account}
-use Rattle.period.specs.Order.{Answer, Test, tested, segmentTests}
-use Rattle.period.specs.Inside.{Passes, Refuses, KgOf, Sized, cell, column, hasPlant, nowhere, AmountsHold, SetsHold, StoredHold, Started, accountBy, Moved}
+use Rattle.accounts.specs.Walk.{Standing, starting, passes, brings, amounts as entering, sum, credits, sentOn, passed, turns, arrived, nowhere}
+use Rattle.accounts.specs.Accounts.{Account, setOf, account, hasBit}
+use Rattle.accounts.specs.Order.{Answer, Test, tested, segmentTests}
+use Rattle.accounts.proofs.Credits.{credited-most}
+use Rattle.accounts.proofs.Sets.{set-has, set-same, set-joined}
+use Rattle.accounts.proofs.Walks.{getD-map, passed-at, arrived-length, arrived-on}
+use Rattle.accounts.proofs.Turned.{sent-ahead}
+use Rattle.period.specs.Inside.{Passes, Refuses, KgOf, Sized, cell, column, AmountsHold, SetsHold, StoredHold, Started, accountBy, Moved}
 use Rattle.period.proofs.Columns.{column-length, column-at}
-use Rattle.period.proofs.Credits.{credited-most}
-use Rattle.period.proofs.Sets.{set-has, set-same, set-joined}
-use Rattle.period.proofs.Steps.{brings-most, brought, stands, may-be, no-more as at-most}
-use Rattle.period.proofs.Walks.{getD-map, passed-at, arrived-length, arrived-on}
+use Rattle.period.proofs.Steps.{brings-most, brought, stands, no-more as at-most}
 
 module _ (plants : List Plant) (segments : List Segment) where
   -- where the plants are after so many turns
@@ -142,9 +143,9 @@ module _ (plants : List Plant) (segments : List Segment) where
               ∙ now .amounts p s placed (omega arith) (omega arith)
               ∙ sym (getD-map (brings (suc s)) (after s) p nowhere 0 placed)
 
-      has : (p : ℕ) → p < length plants → hasPlant (getD sets s 0) p ≡ passes (suc s) (at s p)
+      has : (p : ℕ) → p < length plants → hasBit (getD sets s 0) p ≡ passes (suc s) (at s p)
       has p here =
-          ap (λ (n : ℕ). hasPlant n p) (now .members s (omega arith) (omega arith))
+          ap (λ (n : ℕ). hasBit n p) (now .members s (omega arith) (omega arith))
           ∙ set-has (suc s) (after s) p (rw (sym (after-length s)) at here)
 
       -- the account of the definitions is that of the tables
@@ -207,7 +208,7 @@ module _ (plants : List Plant) (segments : List Segment) where
 
         -- what is past stays
         amount-stays : (p j : ℕ) → p < length plants → j ≤ s → cell table' p j ≡ cell table p j
-        amount-stays p j here earlier = moved .amounts p j here ∙ rw (not-next j earlier, and-false (hasPlant (getD sets s 0) p)) refl
+        amount-stays p j here earlier = moved .amounts p j here ∙ rw (not-next j earlier, and-false (hasBit (getD sets s 0) p)) refl
 
         set-stays : (j : ℕ) → j ≤ s → getD sets' j 0 ≡ getD sets j 0
         set-stays j earlier = moved .members j (omega arith) ∙ rw (not-next j earlier) refl
@@ -276,7 +277,7 @@ module _ (plants : List Plant) (segments : List Segment) where
               ∙ rw (has p plant, now .kept p (rw (sym (after-length s)) at plant), at-next p plant)
               (brought (suc s) (segment .next) (credit p) (at s p) 0 (λ e. omega (arith, e)));
           past = λ j earlier. past-on j (⊎-elim (λ same. inr same) (λ before. inl before) (eq-or-lt-of-le (le-of-suc-le-suc earlier)));
-          ahead = λ p plant. rw (at-next p plant) (may-be (suc s) (segment .next) (credit p) (at s p) s (length segments) refl (segment-within s below .next) (now .ahead p plant));
+          ahead = λ p plant. rw (at-next p plant) (sent-ahead (length segments) s (suc s) (segment .next) (credit p) (at s p) refl (segment-within s below .next) (now .ahead p plant));
           no-more = λ p plant. rw (at-next p plant) (at-most (suc s) (segment .next) (credit p) (at s p) (getD plants p noPlant .exported) (credit-most p plant) (now .no-more p plant));
           tests = λ lines is rest answer. reached lines is rest answer ∙ passes-all (segmentTests (left lines (suc s)) ++ rest) answer;
         }

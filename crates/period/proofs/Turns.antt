@@ -16,9 +16,10 @@ use Rattle.records.specs.declared.segment.Segment.{Segment}
 use Rattle.records.specs.Plants.{mostPlants}
 use Rattle.records.specs.Segments.{mostSegments}
 use Rattle.records.specs.Within.{SegmentWithin}
-use Rattle.period.specs.Walk.{sum, credits}
-use Rattle.period.specs.Inside.{Small, Sized, cell, hasPlant, Sent, Stored, Moved}
-use Rattle.period.proofs.Credits.{part-of-sum, credited-most}
+use Rattle.accounts.specs.Walk.{sum, credits}
+use Rattle.accounts.specs.Accounts.{hasBit}
+use Rattle.accounts.proofs.Credits.{part-of-sum, credited-most}
+use Rattle.period.specs.Inside.{Small, Sized, cell, Sent, Stored, Moved}
 
 -- the credits stand at the front of an array
 module _ (plants members : ℕ) (array credited : List ℕ) (front : take plants array ≡ credited) where
@@ -35,9 +36,9 @@ module _ (plants members : ℕ) (array credited : List ℕ) (front : take plants
     sized = sized;
     sets-sized = long;
     stored-sized = put .sized;
-    amounts = λ p s below. rw (eqb·suc-zero s, and-false (hasPlant members p)) refl;
+    amounts = λ p s below. rw (eqb·suc-zero s, and-false (hasBit members p)) refl;
     members = λ s below. rw (eqb·suc-zero s) refl;
-    kept = λ p below. put .amounts p below ∙ same p below (hasPlant members p) (getD stored p 0) ∙ every (hasPlant members p) (getD credited p 0) (getD stored p 0);
+    kept = λ p below. put .amounts p below ∙ same p below (hasBit members p) (getD stored p 0) ∙ every (hasBit members p) (getD credited p 0) (getD stored p 0);
   }
     where
       every : (b : Bool) (m n : ℕ) → cond b m n ≡ cond (b && true) m n
@@ -53,9 +54,9 @@ module _ (plants members : ℕ) (array credited : List ℕ) (front : take plants
     sized = sent .sized;
     sets-sized = length-set sets next (bitOr (getD sets next 0) members) ∙ long;
     stored-sized = long';
-    amounts = λ p s here. sent .amounts p s here ∙ same p here (hasPlant members p && eqb s next) (cell table p s) ∙ rw (eqb·suc-suc s next) refl;
+    amounts = λ p s here. sent .amounts p s here ∙ same p here (hasBit members p && eqb s next) (cell table p s) ∙ rw (eqb·suc-suc s next) refl;
     members = λ s here. rw (eqb·suc-suc s next) (joined s (eqb s next) refl);
-    kept = λ p here. rw (eqb·zero-suc next, and-false (hasPlant members p)) refl;
+    kept = λ p here. rw (eqb·zero-suc next, and-false (hasBit members p)) refl;
   }
     where
       joined :

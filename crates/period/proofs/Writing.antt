@@ -8,7 +8,7 @@ use native.Mathlib.Omega.{arith}
 use lib.ListN.{length, take, drop, length-append}
 use lib.Seq.{take-at, drop-at, drop-drop, length-front, length-take-le}
 use Rattle.number.specs.Groups.{largest}
-use Rattle.period.specs.Emissions.{roundedUp}
+use Rattle.accounts.specs.Emissions.{roundedUp}
 
 -- ---- rows of n numbers, one behind another
 module _ (n : ℕ) (rows : ℕ → List ℕ) (count : ℕ) (entry : List ℕ) where

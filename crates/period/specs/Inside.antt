@@ -1,7 +1,7 @@
 -- What the private functions of the accounts promise to their callers. Nothing here is needed to read the promise of the call.
-use Prim.Native.Nat.{ℕ, zero, suc, _+_, _-_, _*_, _/_, _%_, _^_, _≤_, _<_}
+use Prim.Native.Nat.{ℕ, zero, suc, _+_, _-_, _*_, _≤_, _<_}
 use mathlib.Core.Path.{_≡_}
-use mathlib.Core.Bool.{Bool, cond, _&&_}
+use mathlib.Core.Bool.{cond, _&&_}
 use mathlib.Core.List.{List, [], _∷_, _++_, map}
 use lib.Bits.{bitOr}
 use lib.Dec.{eqb}
@@ -16,16 +16,16 @@ use Rattle.records.specs.Segments.{mostSegments, noSegment}
 use Rattle.records.specs.Classes.{plantOwner, segmentOwner}
 use Rattle.records.specs.Periods.{Period}
 use Rattle.records.specs.Answers.{Verdict, accepts, refuses, said}
+use Rattle.accounts.specs.Emissions.{mostGrams, emission, roundedUp}
+use Rattle.accounts.specs.Walk.{Standing, nowhere, starting, brings, sum, credits}
+use Rattle.accounts.specs.Accounts.{Account, setOf, hasBit}
+use Rattle.accounts.specs.Rows.{plantRow, segmentRow}
+use Rattle.accounts.specs.Order.{Answer, refusal, Test, tested, lineTests, segmentTests, plantNumbers, segmentNumbers, tableTests}
+use Rattle.accounts.specs.Quantified.{accountsOf, rows}
 use Rattle.period.specs.declared.emissions.Emissions.{Emissions}
 use Rattle.period.specs.declared.flow.Turn.{Turn}
 use Rattle.period.specs.declared.flow.Turn.the-variants as Turn
 use Rattle.period.specs.declared.call.Quantified.{Quantified}
-use Rattle.period.specs.Emissions.{mostGrams, emission, roundedUp}
-use Rattle.period.specs.Walk.{Standing, starting, brings, sum, credits}
-use Rattle.period.specs.Accounts.{Account, setOf}
-use Rattle.period.specs.Rows.{plantRow, segmentRow}
-use Rattle.period.specs.Order.{Answer, refusal, Test, tested, lineTests, segmentTests, plantNumbers, segmentNumbers, tableTests}
-use Rattle.period.specs.Quantified.{accountsOf, rows}
 use Rattle.period.specs.Written.{verdictOf, plantsAfter, segmentsAfter}
 
 -- ---- tests, whatever follows them: none fails, or the first that fails refuses
@@ -72,14 +72,6 @@ cell table p s = getD (getD table p []) s 0
 abbrev pub column : (plants s : ℕ) → List (List ℕ) → List ℕ
 column plants s table = map (λ (row : List ℕ). getD row s 0) (take plants table)
 
--- whether a set has the plant at an index
-abbrev pub hasPlant : (set p : ℕ) → Bool
-hasPlant set p = eqb (set / 2 ^ p % 2) 1
-
--- where no plant stands
-abbrev pub nowhere : Standing
-nowhere = record { before = 0; amount = 0 }
-
 -- the tables hold where the plants stand: for the segments from an index on their amounts and sets, and what is stored
 abbrev pub AmountsHold : List Standing → ℕ → List (List ℕ) → Type 0
 AmountsHold standings from table =
@@ -102,11 +94,11 @@ pub record Started (plants : List Plant) (table : List (List ℕ)) (sets : List 
 -- the credits of the plants of a set, put at an index of the plants' rows, or into what is stored
 pub record Sent (plants set : ℕ) (credited : List ℕ) (next : ℕ) (table table' : List (List ℕ)) : Type 0 where
   pub sized : Sized table'
-  pub amounts : (p s : ℕ) → p < plants → cell table' p s ≡ cond (hasPlant set p && eqb s next) (getD credited p 0) (cell table p s)
+  pub amounts : (p s : ℕ) → p < plants → cell table' p s ≡ cond (hasBit set p && eqb s next) (getD credited p 0) (cell table p s)
 
 pub record Stored (plants set : ℕ) (credited : List ℕ) (stored stored' : List ℕ) : Type 0 where
   pub sized : length stored' ≡ mostPlants
-  pub amounts : (p : ℕ) → p < plants → getD stored' p 0 ≡ cond (hasPlant set p) (getD credited p 0) (getD stored p 0)
+  pub amounts : (p : ℕ) → p < plants → getD stored' p 0 ≡ cond (hasBit set p) (getD credited p 0) (getD stored p 0)
 
 -- the account of the segment at an index, by the tables
 abbrev pub accountBy : (plants s : ℕ) → Segment → (emission : ℕ) → List (List ℕ) → List ℕ → Account
@@ -126,9 +118,9 @@ pub record Moved
   pub sized : Sized table'
   pub sets-sized : length sets' ≡ mostSegments
   pub stored-sized : length stored' ≡ mostPlants
-  pub amounts : (p s : ℕ) → p < plants → cell table' p s ≡ cond (hasPlant set p && eqb (suc s) next) (getD credited p 0) (cell table p s)
+  pub amounts : (p s : ℕ) → p < plants → cell table' p s ≡ cond (hasBit set p && eqb (suc s) next) (getD credited p 0) (cell table p s)
   pub members : (s : ℕ) → s < mostSegments → getD sets' s 0 ≡ cond (eqb (suc s) next) (bitOr (getD sets s 0) set) (getD sets s 0)
-  pub kept : (p : ℕ) → p < plants → getD stored' p 0 ≡ cond (hasPlant set p && eqb 0 next) (getD credited p 0) (getD stored p 0)
+  pub kept : (p : ℕ) → p < plants → getD stored' p 0 ≡ cond (hasBit set p && eqb 0 next) (getD credited p 0) (getD stored p 0)
 
 abbrev pub Worked :
     (plants s : ℕ) → Segment → (emission : ℕ) → Turn →

@@ -1,13 +1,4 @@
--- The definitions of 01 for the accounts and the answer to a file, lowest first.
-
--- the accounts
-pub mod Emissions
-pub mod Walk
-pub mod Accounts
-pub mod Rows
--- the answer to a file
-pub mod Order
-pub mod Quantified
--- the code's answers in these terms
+-- What the code answers in the terms of the accounts' definitions.
 pub mod Written
+-- What private functions promise.
 pub mod Inside

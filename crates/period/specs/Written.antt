@@ -4,8 +4,8 @@ use mathlib.Core.Path.{_≡_}
 use mathlib.Core.List.{List, _++_}
 use lib.ListN.{length, drop}
 use Rattle.records.specs.Answers.{Verdict, accepts, refuses, said}
+use Rattle.accounts.specs.Order.{Answer, refusal, accepted}
 use Rattle.period.specs.declared.call.Quantified.{Quantified}
-use Rattle.period.specs.Order.{Answer, refusal, accepted}
 
 -- "A refusal gives number and place"
 abbrev pub verdictOf : Answer → Verdict

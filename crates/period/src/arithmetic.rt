@@ -1,7 +1,7 @@
 // The arithmetic of whole numbers that the equations use. Division by 0 gives 0.
 ghost use mathlib.Core.Path.{_≡_};
 ghost use Prim.Native.Nat.{_+_, _-_, _/_, _^_, _<_};
-ghost use Rattle.period.specs.Emissions.{roundedUp};
+ghost use Rattle.accounts.specs.Emissions.{roundedUp};
 
 pub(crate) fn rounded_down(n: u64, d: u64) -> u64
     ensures { λ r. ⌜ r ≡ n / d ⌝ }

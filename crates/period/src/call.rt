@@ -2,7 +2,7 @@
 ghost use mathlib.Core.Path.{_≡_};
 ghost use lib.ListN.{length};
 ghost use Rattle.records.specs.Answers.{said};
-ghost use Rattle.period.specs.Quantified.{quantified};
+ghost use Rattle.accounts.specs.Quantified.{quantified};
 ghost use Rattle.period.specs.Inside.{nothing};
 ghost use Rattle.period.specs.Written.{
   Answers,

@@ -7,7 +7,7 @@ ghost use Rattle.records.specs.Plants.{mostPlants};
 ghost use Rattle.records.specs.Segments.{mostSegments};
 ghost use Rattle.records.specs.Lines.{mostLines};
 ghost use Rattle.records.specs.Within.{Each, LineWithin};
-ghost use Rattle.period.specs.Emissions.{inKg};
+ghost use Rattle.accounts.specs.Emissions.{inKg};
 ghost use Rattle.period.specs.Inside.{AddedUp, FewGrams, ownerPlace};
 use crate::arithmetic::rounded_up;
 use records::Answer;

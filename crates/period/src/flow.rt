@@ -9,17 +9,9 @@ ghost use Rattle.number.specs.Groups.{largest};
 ghost use Rattle.records.specs.Plants.{mostPlants};
 ghost use Rattle.records.specs.Segments.{mostSegments};
 ghost use Rattle.records.specs.Within.{Each, PlantWithin, SegmentWithin};
-ghost use Rattle.period.specs.Walk.{sum, credits as creditsOf};
-ghost use Rattle.period.specs.Inside.{
-  column,
-  hasPlant,
-  Sent,
-  Sized,
-  Small,
-  Started,
-  Stored,
-  Worked,
-};
+ghost use Rattle.accounts.specs.Walk.{sum, credits as creditsOf};
+ghost use Rattle.accounts.specs.Accounts.{hasBit};
+ghost use Rattle.period.specs.Inside.{column, Sent, Sized, Small, Started, Stored, Worked};
 use crate::arithmetic::rounded_down;
 use number::Number;
 use records::Answer;
@@ -155,7 +147,7 @@ fn credits(
 // "bit p − 1 set when plant p's route passes"
 fn has(set: u64, p: usize) -> bool
     requires { ⌜ p < mostPlants ⌝ }
-    ensures { λ r. ⌜ r ≡ hasPlant set p ⌝ }
+    ensures { λ r. ⌜ r ≡ hasBit set p ⌝ }
 {
     set >> p & 1 == 1
 }

@@ -6,8 +6,8 @@ ghost use lib.ListN.{length, take, drop};
 ghost use Rattle.number.specs.Groups.{largest};
 ghost use Rattle.records.specs.Plants.{millionths};
 ghost use Rattle.records.specs.Segments.{mostSegments};
-ghost use Rattle.period.specs.Rows.{plantRow, segmentRow};
-ghost use Rattle.period.specs.Order.{plantNumbers, segmentNumbers};
+ghost use Rattle.accounts.specs.Rows.{plantRow, segmentRow};
+ghost use Rattle.accounts.specs.Order.{plantNumbers, segmentNumbers};
 ghost use Rattle.period.specs.Inside.{
   Chargeable,
   chargesBy,

@@ -5,7 +5,7 @@ ghost use Rattle.records.specs.Plants.{mostPlants};
 ghost use Rattle.records.specs.Segments.{mostSegments};
 ghost use Rattle.records.specs.Answers.{said};
 ghost use Rattle.records.specs.Within.{Each, PlantWithin, SegmentWithin};
-ghost use Rattle.period.specs.Order.{tableTests};
+ghost use Rattle.accounts.specs.Order.{tableTests};
 ghost use Rattle.period.specs.Inside.{Passes, Settled, Small};
 use crate::emissions::Emissions;
 use crate::flow::Turn;

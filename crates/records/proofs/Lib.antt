@@ -4,10 +4,10 @@ mod Table
 mod Classes
 -- What a file's bytes are as a run of numbers, and how a run is read.
 mod Runs
-mod Fields
+pub mod Fields
 pub mod Verdicts
 mod Stages
-mod Whole
+pub mod Whole
 mod WaysOut
 -- What a file that was read holds, and how long it is.
 pub mod Within

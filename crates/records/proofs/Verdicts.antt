@@ -38,25 +38,25 @@ refusing : Verdict → Bool
 refusing accepts = false
 refusing (refuses number place) = true
 
-refused : {number place : ℕ} → refuses number place ≡ accepts → ⊥
+pub refuses-not-accepts : {number place : ℕ} → refuses number place ≡ accepts → ⊥
 unfolding refusing
-refused e = true≢false (ap refusing e)
+refuses-not-accepts e = true≢false (ap refusing e)
 
 -- the others refuse
 pub not-accepted : (answer : Answer) → OneOf refusals (tagOf the-type answer) → said answer ≡ accepts → ⊥
 not-accepted Accepted tag e = absurd (miss refusals 0 tt tag)
-not-accepted (Ends place) tag e = refused e
-not-accepted (NotShortest place) tag e = refused e
-not-accepted (TooLarge place) tag e = refused e
-not-accepted (Edition place) tag e = refused e
-not-accepted (Count place) tag e = refused e
-not-accepted (Plant place) tag e = refused e
-not-accepted (Segment place) tag e = refused e
-not-accepted (Line place) tag e = refused e
-not-accepted (BytesAfter place) tag e = refused e
-not-accepted (Grams place) tag e = refused e
-not-accepted (Inflow place) tag e = refused e
-not-accepted (Outflow place) tag e = refused e
-not-accepted (Emission place) tag e = refused e
-not-accepted (PlantTable place) tag e = refused e
-not-accepted (SegmentTable place) tag e = refused e
+not-accepted (Ends place) tag e = refuses-not-accepts e
+not-accepted (NotShortest place) tag e = refuses-not-accepts e
+not-accepted (TooLarge place) tag e = refuses-not-accepts e
+not-accepted (Edition place) tag e = refuses-not-accepts e
+not-accepted (Count place) tag e = refuses-not-accepts e
+not-accepted (Plant place) tag e = refuses-not-accepts e
+not-accepted (Segment place) tag e = refuses-not-accepts e
+not-accepted (Line place) tag e = refuses-not-accepts e
+not-accepted (BytesAfter place) tag e = refuses-not-accepts e
+not-accepted (Grams place) tag e = refuses-not-accepts e
+not-accepted (Inflow place) tag e = refuses-not-accepts e
+not-accepted (Outflow place) tag e = refuses-not-accepts e
+not-accepted (Emission place) tag e = refuses-not-accepts e
+not-accepted (PlantTable place) tag e = refuses-not-accepts e
+not-accepted (SegmentTable place) tag e = refuses-not-accepts e

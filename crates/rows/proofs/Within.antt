@@ -6,8 +6,8 @@ use native.Mathlib.Omega.{arith}
 use lib.ListN.{length, drop, length-append}
 use Rattle.io.specs.Counts.{Counts}
 use Rattle.io.proofs.Counting.{counts}
+use Rattle.accounts.specs.Order.{Answer, refusal, accepted}
 use Rattle.period.specs.declared.call.Quantified.{Quantified}
-use Rattle.period.specs.Order.{Answer, refusal, accepted}
 use Rattle.period.specs.Written.{overwritten, plantsAfter, segmentsAfter, Answers}
 
 -- numbers that are written over the start of a table are no more than it then has

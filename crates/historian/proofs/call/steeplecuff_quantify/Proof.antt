@@ -6,8 +6,8 @@ use lib.ListN.{length}
 use denote.Ref.{now}
 use borrow.Author.Needs.{needs}
 use Rattle.records.specs.Answers.{numberOf, placeOf}
-use Rattle.period.specs.Order.{Answer}
-use Rattle.period.specs.Quantified.{quantified}
+use Rattle.accounts.specs.Order.{Answer}
+use Rattle.accounts.specs.Quantified.{quantified}
 use Rattle.period.specs.Written.{verdictOf}
 use Rattle.historian.specs.Tables.{answerTo, plantBytesAfter, segmentBytesAfter}
 use Rattle.historian.proofs.Tables.{lent, lent-length, mostPlantNumbers, mostSegmentNumbers, same-answer, Back, within-room, whole-length, bytes-after, plantsOf, segmentsOf, plants-back, segments-back, plant-bytes, segment-bytes}

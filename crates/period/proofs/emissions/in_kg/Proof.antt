@@ -6,7 +6,7 @@ use native.Mathlib.Numerals.{add-one}
 use native.Mathlib.Omega.{arith}
 use lib.ListN.{length, take, length-set}
 use lib.Seq.{take-all, take-suc, take-suc-set}
-use Rattle.period.specs.Emissions.{inKg}
+use Rattle.accounts.specs.Emissions.{inKg}
 use Rattle.period.proofs.Totals.{owners}
 use Rattle.period.proofs.emissions.in_kg.Statement.{statement}
 use Rattle.period.proofs.emissions.in_kg.Tie as tie

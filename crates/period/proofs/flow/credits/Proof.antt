@@ -10,7 +10,7 @@ use lib.ListN.{length}
 use denote.Ref.{now}
 use Rattle.number.specs.Groups.{largest}
 use Rattle.period.specs.Inside.{cell, column}
-use Rattle.period.proofs.Credits.{Next, Crediting, crediting-start, so-far-most, shared-most, crediting-on, crediting-end}
+use Rattle.period.proofs.Crediting.{Next, Crediting, crediting-start, so-far-most, shared-most, crediting-on, crediting-end}
 use Rattle.period.proofs.Columns.{column-length, column-next}
 use Rattle.period.proofs.flow.credits.Statement.{statement}
 use Rattle.period.proofs.flow.credits.Tie as tie

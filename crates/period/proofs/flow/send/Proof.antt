@@ -7,7 +7,8 @@ use native.Mathlib.Omega.{arith}
 use lib.Dec.{eqb}
 use lib.ListN.{getD}
 use lib.Seq.{getD-take}
-use Rattle.period.specs.Inside.{Sized, cell, hasPlant}
+use Rattle.accounts.specs.Accounts.{hasBit}
+use Rattle.period.specs.Inside.{Sized, cell}
 use Rattle.period.proofs.Cells.{Filled, none-yet, one-kept, put-sized, put-filled}
 use Rattle.period.proofs.flow.send.Statement.{statement}
 use Rattle.period.proofs.flow.send.Tie as tie
@@ -16,7 +17,7 @@ abbrev Inv-loop : tie.InvT-loop
 Inv-loop amounts₀ plants set next credits p₀ amounts p =
     (p ≤ plants)
     × Sized amounts
-    × Filled p (λ q s. cond (hasPlant set q && eqb s next) (getD credits q 0) (cell amounts₀ q s)) (cell amounts₀) amounts
+    × Filled p (λ q s. cond (hasBit set q && eqb s next) (getD credits q 0) (cell amounts₀ q s)) (cell amounts₀) amounts
 
 abbrev μ-loop : tie.MeasureT-loop
 μ-loop amounts₀ plants set next credits p₀ amounts p = plants - p
@@ -64,14 +65,14 @@ loop-again c =
     let credit = getD (a .t4) (l .p) 0 in
     ⊎-elim
     (λ w.
-    let member : hasPlant (a .set) (l .p) ≡ true = sym (c .before .has .ensures) ∙ w .0 .taken in
+    let member : hasBit (a .set) (l .p) ≡ true = sym (c .before .has .ensures) ∙ w .0 .taken in
     rw (w .1) (
       omega arith,
       put-sized (l .amounts) (l .p) (a .next) credit (l .inv .1) (omega arith),
       put-filled (l .amounts) (l .p) (a .next) credit (l .inv .1) (omega arith) (omega arith) (l .inv .2) (λ s. rw member),
     ))
     (λ w.
-    let member : hasPlant (a .set) (l .p) ≡ false = sym (c .before .has .ensures) ∙ w .0 .left in
+    let member : hasBit (a .set) (l .p) ≡ false = sym (c .before .has .ensures) ∙ w .0 .left in
     rw (w .1) (omega arith, l .inv .1, λ s. one-kept (l .inv .2 s) (rw member)))
     (c .if1 .came)
 

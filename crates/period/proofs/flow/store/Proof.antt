@@ -6,7 +6,7 @@ use mathlib.Core.Logic.{⊎-elim}
 use native.Mathlib.Omega.{arith}
 use lib.ListN.{getD, length, length-set}
 use Rattle.records.specs.Plants.{mostPlants}
-use Rattle.period.specs.Inside.{hasPlant}
+use Rattle.accounts.specs.Accounts.{hasBit}
 use Rattle.period.proofs.Cells.{UpTo, none-yet, one-kept, row-filled}
 use Rattle.period.proofs.flow.store.Statement.{statement}
 use Rattle.period.proofs.flow.store.Tie as tie
@@ -15,7 +15,7 @@ abbrev Inv-loop : tie.InvT-loop
 Inv-loop stored₀ plants set credits p₀ stored p =
     (p ≤ plants)
     × (length stored ≡ mostPlants)
-    × UpTo p (λ q. cond (hasPlant set q) (getD credits q 0) (getD stored₀ q 0)) (λ q. getD stored₀ q 0) (λ q. getD stored q 0)
+    × UpTo p (λ q. cond (hasBit set q) (getD credits q 0) (getD stored₀ q 0)) (λ q. getD stored₀ q 0) (λ q. getD stored q 0)
 
 abbrev μ-loop : tie.MeasureT-loop
 μ-loop stored₀ plants set credits p₀ stored p = plants - p
@@ -50,10 +50,10 @@ loop-again c =
     let l = c .before .before .before .loop in
     ⊎-elim
     (λ w.
-    let member : hasPlant (a .set) (l .p) ≡ true = sym (c .before .has .ensures) ∙ w .0 .taken in
+    let member : hasBit (a .set) (l .p) ≡ true = sym (c .before .has .ensures) ∙ w .0 .taken in
     rw (w .1) (omega arith, rw length-set (l .inv .1), row-filled (l .stored) (getD (a .t4) (l .p) 0) (omega arith) (l .inv .2) (rw member)))
     (λ w.
-    let member : hasPlant (a .set) (l .p) ≡ false = sym (c .before .has .ensures) ∙ w .0 .left in
+    let member : hasBit (a .set) (l .p) ≡ false = sym (c .before .has .ensures) ∙ w .0 .left in
     rw (w .1) (omega arith, l .inv .1, one-kept (l .inv .2) (rw member)))
     (c .if1 .came)
 

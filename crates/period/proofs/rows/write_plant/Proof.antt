@@ -6,7 +6,7 @@ use lib.ListN.{length-set}
 use lib.Seq.{sets-eq}
 use denote.Ref.{now}
 use borrow.Author.Needs.{needs}
-use Rattle.period.specs.Rows.{plantRow}
+use Rattle.accounts.specs.Rows.{plantRow}
 use Rattle.period.proofs.rows.write_plant.Statement.{statement}
 use Rattle.period.proofs.rows.write_plant.Tie as tie
 

@@ -3,7 +3,7 @@ use Prim.Native.Nat.{_-_}
 use mathlib.Core.Path.{refl}
 use native.Mathlib.Omega.{arith}
 use denote.Ref.{now}
-use Rattle.period.specs.Order.{plantNumbers}
+use Rattle.accounts.specs.Order.{plantNumbers}
 use Rattle.period.specs.Inside.{plantRowsBy}
 use Rattle.period.proofs.Writing.{Writing, writing-start, writing-length, writing-room, writing-on, writing-end}
 use Rattle.period.proofs.rows.write_plants.Statement.{statement}

@@ -5,7 +5,7 @@ use lib.ListN.{length-set}
 use lib.Seq.{sets-eq}
 use denote.Ref.{now}
 use borrow.Author.Needs.{needs}
-use Rattle.period.specs.Rows.{segmentRow}
+use Rattle.accounts.specs.Rows.{segmentRow}
 use Rattle.period.proofs.rows.write_segment.Statement.{statement}
 use Rattle.period.proofs.rows.write_segment.Tie as tie
 

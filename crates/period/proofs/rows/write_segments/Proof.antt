@@ -7,7 +7,7 @@ use mir.Syntax.{w64}
 use mir.Val.{Fits}
 use denote.Ref.{now}
 use borrow.Author.Needs.{needs}
-use Rattle.period.specs.Order.{segmentNumbers}
+use Rattle.accounts.specs.Order.{segmentNumbers}
 use Rattle.period.specs.Inside.{segmentRowsBy}
 use Rattle.period.proofs.Writing.{Writing, writing-start, writing-length, writing-room, writing-on, writing-end}
 use Rattle.period.proofs.rows.write_segments.Statement.{statement}

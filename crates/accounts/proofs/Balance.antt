@@ -1,0 +1,127 @@
+-- In every file that the call accepts, no kg of CO2 appears or vanishes: what all plants export is what all of them have stored, and what every
+-- segment lost by its meters. This is said of the rows that the call gives.
+use Prim.Native.Nat.{ℕ, zero, suc, _+_, _-_, _≤_, _<_}
+use mathlib.Core.Path.{_≡_, refl, sym, ap, _∙_}
+use mathlib.Core.Bool.{Bool, true, false}
+use mathlib.Core.List.{List, [], _∷_, map, zipWith}
+use native.Mathlib.Omega.{arith}
+use lib.ListN.{length, length-map, getD}
+use lib.Seq.{take-all}
+use Rattle.records.specs.Plants.{noPlant}
+use Rattle.records.specs.Periods.{Period}
+use Rattle.accounts.specs.Walk.{Standing, nowhere, starting, passes, brings, amounts, sum, credits, sentOn, passed, Turn, arrived}
+use Rattle.accounts.specs.Accounts.{account}
+use Rattle.accounts.specs.Order.{plantNumbers, segmentNumbers}
+use Rattle.accounts.specs.Quantified.{started, stores}
+use Rattle.accounts.specs.Accepted.{Accepted, held}
+use Rattle.accounts.specs.Tables.{inRow, columnSum, exportedColumn, storedColumn, lossColumn}
+use Rattle.accounts.specs.Shares.{turnAt, entering, afterwards}
+use Rattle.accounts.proofs.Credits.{credits-sum, credited-most}
+use Rattle.accounts.proofs.Walks.{getD-map, credited}
+use Rattle.accounts.proofs.Accepting.{Means, accepted-means}
+use Rattle.accounts.proofs.RowsAt.{plant-row-at, segment-row-at, column-is}
+use Rattle.accounts.proofs.Turned.{after, after-all, after-length, turn-standings, turned, outflow-most}
+
+-- the amounts of all plants, wherever they stand
+abbrev amountOf : Standing → ℕ
+amountOf standing = standing .amount
+
+abbrev amountsOf : List Standing → List ℕ
+amountsOf = map amountOf
+
+-- ---- one turn
+module _ (own next : ℕ) where
+  -- a plant that passes gives its amount for its credit; one that does not keeps its amount and is credited nothing
+  one-sent :
+      (standing : Standing) (credit : ℕ) → credit ≤ brings own standing →
+      sentOn own next standing credit .amount + brings own standing ≡ standing .amount + credit
+  one-sent standing credit less = by-test (passes own standing) refl less
+    where
+      by-test :
+          (t : Bool) → passes own standing ≡ t → credit ≤ brings own standing →
+          sentOn own next standing credit .amount + brings own standing ≡ standing .amount + credit
+      by-test true e less = rw e (omega arith)
+      by-test false e less = rw e (omega (arith, rw e at less))
+
+  -- all plants, one by one
+  all-sent :
+      (standings : List Standing) (shares : List ℕ) → length shares ≡ length standings →
+      ((p : ℕ) → getD shares p 0 ≤ getD (amounts own standings) p 0) →
+      sum (amountsOf (zipWith (sentOn own next) standings shares)) + sum (amounts own standings) ≡ sum (amountsOf standings) + sum shares
+  unfolding sum zipWith
+  all-sent [] [] long less = refl
+  all-sent [] (share ∷ shares) long less = absurd (omega (arith, long))
+  all-sent (standing ∷ standings) [] long less = absurd (omega (arith, long))
+  all-sent (standing ∷ standings) (share ∷ shares) long less =
+      let first = one-sent standing share (less 0) in
+      let others = all-sent standings shares (omega (arith, long)) (λ p. less (suc p)) in
+      omega (arith, first, others)
+
+-- all plants together give the inflow for the outflow
+one-turn :
+    (turn : Turn) → turn .segment .outflow ≤ sum (entering turn) →
+    sum (amountsOf (afterwards turn)) + sum (entering turn) ≡ sum (amountsOf (turn .standings)) + turn .segment .outflow
+unfolding passed
+one-turn turn less =
+    let shares = credits (turn .segment .outflow) (entering turn) in
+    let sent = all-sent (turn .own) (turn .segment .next) (turn .standings) shares (credited (turn .own) (turn .segment) (turn .standings)) (λ p.
+    credited-most (turn .segment .outflow) (entering turn) p less) in
+    rw (credits-sum (turn .segment .outflow) (entering turn) less) at sent
+
+-- ---- all turns of an accepted period
+module _ {period : Period} {plants segments : List ℕ} (means : Means period plants segments) where
+  -- what a segment lost by its meters
+  loss-told :
+      (s : ℕ) → s < length (period .segments) →
+      inRow segmentNumbers s lossColumn segments ≡ sum (entering (turnAt period s)) - turnAt period s .segment .outflow
+  unfolding account
+  loss-told s below = ap (λ (row : List ℕ). getD row lossColumn 0) (segment-row-at means s below)
+
+  -- the exports are what is still held after so many turns, and what was lost in them
+  lost-so-far :
+      (s : ℕ) → s ≤ length (period .segments) →
+      sum (amountsOf (started period)) ≡ sum (amountsOf (after period s)) + columnSum segmentNumbers lossColumn s segments
+  unfolding arrived columnSum
+  lost-so-far zero fits = omega arith
+  lost-so-far (suc s) fits =
+      let below : s < length (period .segments) = omega (arith, fits) in
+      let now = ap (λ (standings : List Standing). sum (amountsOf standings)) (turn-standings period s below) in
+      let then = ap (λ (standings : List Standing). sum (amountsOf standings)) (turned period s below) in
+      let less = outflow-most means s below in
+      omega (arith, lost-so-far s (omega (arith, fits)), one-turn (turnAt period s) less, less, now, then, loss-told s below)
+
+  -- ---- a column of the plants' rows that holds their amounts adds up to these
+  column-held :
+      (column : ℕ) (standings : List Standing) → length standings ≡ length (period .plants) →
+      ((p : ℕ) → p < length (period .plants) → inRow plantNumbers p column plants ≡ getD standings p nowhere .amount) →
+      columnSum plantNumbers column (length (period .plants)) plants ≡ sum (amountsOf standings)
+  column-held column standings long same =
+      let counted : length (amountsOf standings) ≡ length (period .plants) = length-map standings amountOf ∙ long in
+      column-is plantNumbers column (length (period .plants)) plants (amountsOf standings) (omega (arith, counted)) (λ p plant.
+      same p plant ∙ sym (getD-map amountOf standings p nowhere 0 (rw long plant)))
+      ∙ ap sum (take-all (length (period .plants)) (amountsOf standings) (omega (arith, counted)))
+
+  -- they start with what they export
+  exported-told : columnSum plantNumbers exportedColumn (length (period .plants)) plants ≡ sum (amountsOf (started period))
+  exported-told = column-held exportedColumn (started period) (length-map (period .plants) starting) (λ p plant.
+      ap (λ (row : List ℕ). getD row exportedColumn 0) (plant-row-at means p plant)
+      ∙ sym (ap amountOf (getD-map starting (period .plants) p noPlant nowhere plant)))
+
+  -- and end with what they have stored
+  stored-told : columnSum plantNumbers storedColumn (length (period .plants)) plants ≡ sum (amountsOf (stores period))
+  stored-told =
+      let counted = ap length (sym (after-all period)) ∙ after-length period (length (period .segments)) in
+      column-held storedColumn (stores period) counted (λ p plant. ap (λ (row : List ℕ). getD row storedColumn 0) (plant-row-at means p plant))
+
+  -- what they exported is what they have stored and what was lost
+  balanced :
+      columnSum plantNumbers exportedColumn (length (period .plants)) plants
+      ≡ columnSum plantNumbers storedColumn (length (period .plants)) plants + columnSum segmentNumbers lossColumn (length (period .segments)) segments
+  balanced = exported-told ∙ rw (stored-told, ← after-all period) (lost-so-far (length (period .segments)) (omega arith))
+
+pub balance :
+    {file plants segments : List ℕ} → Accepted file plants segments →
+    let P = length (held file .plants) in
+    let S = length (held file .segments) in
+    columnSum plantNumbers exportedColumn P plants ≡ columnSum plantNumbers storedColumn P plants + columnSum segmentNumbers lossColumn S segments
+balance given = balanced (accepted-means given)

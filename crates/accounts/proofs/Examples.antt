@@ -1,0 +1,101 @@
+-- 01, "One whole period": its four rows and all proved cases of the table below it, as one statement about the definitions. And two lines of
+-- one owner, which are rounded once.
+use Prim.Native.Nat.{ℕ}
+use mathlib.Core.Path.{_≡_, refl}
+use mathlib.Core.List.{List, [], _∷_, _++_, zipWith, flatMap}
+use Rattle.number.specs.Groups.{gather, value, padded}
+use Rattle.number.specs.Reading.{reading, formed}
+use Rattle.number.specs.Writing.{writing, written}
+use Rattle.records.specs.Classes.{plantOwner, classes, classAllowed}
+use Rattle.records.specs.Lines.{lineOf}
+use Rattle.records.specs.Run.{runOf, run}
+use Rattle.records.specs.Fields.{each, reads}
+use Rattle.records.specs.Periods.{header, plant, segment, line, records, period, periodFile}
+use Rattle.accounts.specs.Emissions.{gramsOf, emission}
+use Rattle.accounts.specs.Walk.{sum, creditsFrom, passed, turns, arrived}
+use Rattle.accounts.specs.Accounts.{setOf, account}
+use Rattle.accounts.specs.Rows.{plantRows, segmentRows}
+use Rattle.accounts.specs.Order.{refusal, accepted, tested, lineTests, segmentTests}
+use Rattle.accounts.specs.Quantified.{accountsOf, rows, judged, quantified}
+
+-- The numbers of 01's whole period, but for those that the cases change: the exports, the outflows, the second kind, and the first line's
+-- quantity and factor.
+abbrev pub numbers : (export₁ export₂ outflow₁ kind₂ outflow₂ quantity factor : ℕ) → List ℕ
+numbers export₁ export₂ outflow₁ kind₂ outflow₂ quantity factor =
+    1 ∷ 2 ∷ 2 ∷ 2
+    ∷ export₁ ∷ 1 ∷ 1_000_000
+    ∷ export₂ ∷ 1 ∷ 900_000
+    ∷ 1 ∷ outflow₁ ∷ 2
+    ∷ kind₂ ∷ outflow₂ ∷ 0
+    ∷ 0 ∷ 1 ∷ 4 ∷ quantity ∷ factor
+    ∷ 1 ∷ 1 ∷ 3 ∷ 101 ∷ 2650
+    ∷ []
+
+-- The file of some numbers, each in its shortest form.
+abbrev pub file : List ℕ → List ℕ
+file = flatMap written
+
+abbrev pub whole : List ℕ
+whole = file (numbers 10000 5001 14900 6 14899 2000 350)
+
+pub examples :
+    -- the whole period, with tables just large enough
+    (quantified whole 16 10
+    ≡ accepted
+    (10000 ∷ 9931 ∷ 69 ∷ 9931 ∷ 879 ∷ 9052 ∷ 9 ∷ 0
+    ∷ 5001 ∷ 4968 ∷ 33 ∷ 4471 ∷ 90 ∷ 4381 ∷ 4 ∷ 0
+    ∷ [])
+    (15001 ∷ 14900 ∷ 101 ∷ 268 ∷ 3
+    ∷ 14900 ∷ 14899 ∷ 1 ∷ 0 ∷ 3
+    ∷ []))
+    -- empty file
+    × (quantified [] 16 10 ≡ refusal 1 0)
+    -- byte 01 alone
+    × (quantified (0x01 ∷ []) 16 10 ≡ refusal 1 1)
+    -- bytes 80 00
+    × (quantified (0x80 ∷ 0x00 ∷ []) 16 10 ≡ refusal 2 0)
+    -- bytes 81 D0 AC F3 0E
+    × (quantified (0x81 ∷ 0xD0 ∷ 0xAC ∷ 0xF3 ∷ 0x0E ∷ []) 16 10 ≡ refusal 3 0)
+    -- byte 02 alone
+    × (quantified (0x02 ∷ []) 16 10 ≡ refusal 4 0)
+    -- bytes 01 00
+    × (quantified (0x01 ∷ 0x00 ∷ []) 16 10 ≡ refusal 5 1)
+    -- whole period, second kind 5
+    × (quantified (file (numbers 10000 5001 14900 5 14899 2000 350)) 16 10 ≡ refusal 7 15)
+    -- whole period and one byte more
+    × (quantified (whole ++ 0x00 ∷ []) 16 10 ≡ refusal 9 26)
+    -- first line 4000000000 × 1000: plant 1 units 0, deficit 3999990248
+    × (quantified (file (numbers 10000 5001 14900 6 14899 4_000_000_000 1000)) 16 10
+    ≡ accepted
+    (10000 ∷ 9931 ∷ 69 ∷ 9931 ∷ 4_000_000_179 ∷ 0 ∷ 0 ∷ 3_999_990_248
+    ∷ 5001 ∷ 4968 ∷ 33 ∷ 4471 ∷ 90 ∷ 4381 ∷ 4 ∷ 0
+    ∷ [])
+    (15001 ∷ 14900 ∷ 101 ∷ 268 ∷ 3
+    ∷ 14900 ∷ 14899 ∷ 1 ∷ 0 ∷ 3
+    ∷ []))
+    -- first line 4000000000 × 1001
+    × (quantified (file (numbers 10000 5001 14900 6 14899 4_000_000_000 1001)) 16 10 ≡ refusal 10 1)
+    -- first outflow 15001
+    × (quantified (file (numbers 10000 5001 15001 6 14899 2000 350)) 16 10
+    ≡ accepted
+    (10000 ∷ 9932 ∷ 68 ∷ 9932 ∷ 879 ∷ 9053 ∷ 9 ∷ 0
+    ∷ 5001 ∷ 4967 ∷ 34 ∷ 4470 ∷ 90 ∷ 4380 ∷ 4 ∷ 0
+    ∷ [])
+    (15001 ∷ 15001 ∷ 0 ∷ 268 ∷ 3
+    ∷ 15001 ∷ 14899 ∷ 102 ∷ 0 ∷ 3
+    ∷ []))
+    -- first outflow 15002
+    × (quantified (file (numbers 10000 5001 15002 6 14899 2000 350)) 16 10 ≡ refusal 12 1)
+    -- both exports and outflows 0, lines kept
+    × (quantified (file (numbers 0 0 0 6 0 2000 350)) 16 10 ≡ refusal 13 1)
+    -- plant table of 15 numbers
+    × (quantified whole 15 10 ≡ refusal 14 16)
+unfolding gather value padded reading formed writing written flatMap zipWith classes classAllowed runOf run each reads header plant segment line records period periodFile gramsOf emission sum creditsFrom passed turns arrived setOf account plantRows segmentRows tested lineTests segmentTests accountsOf rows judged quantified
+examples = (refl, refl, refl, refl, refl, refl, refl, refl, refl, refl, refl, refl, refl, refl, refl)
+
+-- "Easily done wrongly": "two lines of 500 g are 1 kg, not 2"
+pub two-lines :
+    let line = lineOf plantOwner 1 3 500 1 in
+    emission plantOwner 1 (line ∷ line ∷ []) ≡ 1
+unfolding gramsOf emission
+two-lines = refl

@@ -1,0 +1,36 @@
+-- Laws of the definitions: sums and credits, charges, the sets of plants, the walk turn by turn, an owner's lines.
+pub mod Credits
+pub mod Charges
+mod Bits
+pub mod Sets
+pub mod Walks
+pub mod AsExported
+pub mod OwnersLines
+-- Tests in their order; what acceptance means; the rows by their index, and the turns of a period.
+pub mod Testing
+pub mod Accepting
+pub mod RowsAt
+pub mod Turned
+-- What reading refuses is refused; a table with room for the most rows is answered as a longer one.
+pub mod Refused
+pub mod Room
+-- Bytes past the longest file cannot change the answer.
+pub mod Longer
+-- A plant is credited its proportional part of the outflow; credits add up to it; exports are what is stored and what was lost.
+pub mod ProportionalPart
+pub mod CreditsAddUp
+pub mod Balance
+-- Where routes meet, and a plant that is alone on its route.
+pub mod Meeting
+mod AlongRoutes
+pub mod AloneOnItsRoute
+-- No plant gains from a larger line; another plant's fraction and lines do not matter; what the charges add up to.
+pub mod LargerLine
+pub mod OthersFractionAndLines
+pub mod ChargesAddUp
+pub mod ChargesCounted
+-- A file is refused exactly for the first of 01's reasons that holds, and accepted exactly where none does.
+mod Places
+pub mod Order
+-- The whole period of 01 and its proved cases.
+pub mod Examples

@@ -1,0 +1,66 @@
+-- An owner's emission comes from its own lines alone: lines of others may be left out.
+use Prim.Native.Nat.{ℕ, _+_}
+use mathlib.Core.Path.{_≡_, refl, sym, ap, _∙_}
+use mathlib.Core.Bool.{Bool, true, false, cond, not, _&&_, true≢false}
+use mathlib.Core.List.{List, [], _∷_}
+use native.Mathlib.Omega.{arith}
+use lib.Dec.{eqb}
+use borrow.Author.Tests.{eqb-true}
+use Rattle.records.specs.declared.line.Line.{Line}
+use Rattle.accounts.specs.Emissions.{inKg, grams, ownedBy, chosen, gramsOf, emission}
+
+module _ (ownerKind owner : ℕ) where
+  -- a line of an owner has the owner's kind and number
+  owner-is : (line : Line) → ownedBy ownerKind owner line ≡ true → (line .«owner_kind» ≡ ownerKind) × (line .owner ≡ owner)
+  owner-is line its = by-tests (eqb (line .«owner_kind») ownerKind) (eqb (line .owner) owner) refl refl its
+    where
+      by-tests :
+          (kind number : Bool) → eqb (line .«owner_kind») ownerKind ≡ kind → eqb (line .owner) owner ≡ number → kind && number ≡ true →
+          (line .«owner_kind» ≡ ownerKind) × (line .owner ≡ owner)
+      by-tests true true k n e = (eqb-true (line .«owner_kind») ownerKind k, eqb-true (line .owner) owner n)
+      by-tests true false k n e = absurd (true≢false (sym e))
+      by-tests false number k n e = absurd (true≢false (sym e))
+
+  -- ---- a choice that keeps all lines of the owner
+  module _ (choose : Line → Bool) (kept : (line : Line) → ownedBy ownerKind owner line ≡ true → choose line ≡ true) where
+    -- the chosen lines give the owner's grams
+    grams-of-chosen : (lines : List Line) → gramsOf ownerKind owner (chosen choose lines) ≡ gramsOf ownerKind owner lines
+    unfolding gramsOf chosen
+    grams-of-chosen [] = refl
+    grams-of-chosen (line ∷ lines) = by-tests (choose line) (ownedBy ownerKind owner line) refl refl (grams-of-chosen lines)
+      where
+        by-tests :
+            (kept-here its : Bool) → choose line ≡ kept-here → ownedBy ownerKind owner line ≡ its →
+            gramsOf ownerKind owner (chosen choose lines) ≡ gramsOf ownerKind owner lines →
+            gramsOf ownerKind owner (cond kept-here (line ∷ chosen choose lines) (chosen choose lines))
+            ≡ cond its (grams line) 0 + gramsOf ownerKind owner lines
+        by-tests true its c o rest = rw (o, rest) refl
+        by-tests false true c o rest = absurd (true≢false (sym (kept line o) ∙ c))
+        by-tests false false c o rest = omega (arith, rest)
+
+    -- and its emission
+    emission-of-chosen : (lines : List Line) → emission ownerKind owner (chosen choose lines) ≡ emission ownerKind owner lines
+    unfolding emission
+    emission-of-chosen lines = ap inKg (grams-of-chosen lines)
+
+    -- so where the same lines are chosen, the owner's emission is the same
+    pub same-emission :
+        (one two : List Line) → chosen choose two ≡ chosen choose one → emission ownerKind owner two ≡ emission ownerKind owner one
+    same-emission one two same = sym (emission-of-chosen two) ∙ ap (emission ownerKind owner) same ∙ emission-of-chosen one
+
+  -- ---- the owner's lines alone are enough
+  pub emission-of-own : (lines : List Line) → emission ownerKind owner (chosen (ownedBy ownerKind owner) lines) ≡ emission ownerKind owner lines
+  emission-of-own = emission-of-chosen (ownedBy ownerKind owner) (λ line its. its)
+
+-- ---- a choice that leaves out the lines of one owner keeps those of any other
+pub others-kept :
+    (ownerKind owner leftKind left : ℕ) → (ownerKind ≡ leftKind → owner ≡ left → ⊥) →
+    (line : Line) → ownedBy ownerKind owner line ≡ true → not (ownedBy leftKind left line) ≡ true
+others-kept ownerKind owner leftKind left apart line its = by-test (ownedBy leftKind left line) refl
+  where
+    by-test : (t : Bool) → ownedBy leftKind left line ≡ t → not t ≡ true
+    by-test true e =
+        let this = owner-is ownerKind owner line its in
+        let that = owner-is leftKind left line e in
+        absurd (apart (sym (this .0) ∙ that .0) (sym (this .1) ∙ that .1))
+    by-test false e = refl

@@ -1,0 +1,53 @@
+-- Tables with room for the most plants and segments get the same answer as longer ones.
+use Prim.Native.Nat.{ℕ, _*_, _≤_, min}
+use mathlib.Core.Path.{_≡_, refl, ap}
+use mathlib.Core.Bool.{Bool, true, false}
+use mathlib.Core.List.{List, _++_}
+use native.Mathlib.Omega.{arith}
+use lib.ListN.{length}
+use lib.Dec.{ltb}
+use borrow.Author.Tests.{lt-ltb, le-ltb, ltb-true, ltb-false}
+use Rattle.records.specs.Plants.{mostPlants}
+use Rattle.records.specs.Segments.{mostSegments}
+use Rattle.records.specs.Fields.{Read, read, refused}
+use Rattle.records.specs.Periods.{Period, periodFile}
+use Rattle.records.proofs.Within.{read-within}
+use Rattle.accounts.specs.Order.{Test, tested, lineTests, segmentTests, plantNumbers, segmentNumbers, tableTests}
+use Rattle.accounts.specs.Quantified.{accountsOf, rows, judged, afterReading, quantified}
+
+-- whether a table is too short for rows that need no more than the most
+same-test : (table most need : ℕ) → need ≤ most → ltb (min table most) need ≡ ltb table need
+same-test table most need few = by-test (ltb table need) refl
+  where
+    by-test : (t : Bool) → ltb table need ≡ t → ltb (min table most) need ≡ t
+    by-test true short = lt-ltb (min table most) need (omega (arith, ltb-true table need short))
+    by-test false long = le-ltb (min table most) need (omega (arith, ltb-false table need long))
+
+-- 14 and 15
+same-tests :
+    (plants segments plantTable segmentTable : ℕ) → plants ≤ mostPlants → segments ≤ mostSegments →
+    tableTests plants segments (min plantTable (plantNumbers * mostPlants)) (min segmentTable (segmentNumbers * mostSegments))
+    ≡ tableTests plants segments plantTable segmentTable
+same-tests plants segments plantTable segmentTable few-plants few-segments =
+    let p = same-test plantTable (plantNumbers * mostPlants) (plantNumbers * plants) (omega arith) in
+    let s = same-test segmentTable (segmentNumbers * mostSegments) (segmentNumbers * segments) (omega arith) in
+    cc
+
+-- the whole answer: a file that is read has no more than the most of either
+pub room-enough :
+    (file : List ℕ) (plantTable segmentTable : ℕ) →
+    quantified file (min plantTable (plantNumbers * mostPlants)) (min segmentTable (segmentNumbers * mostSegments)) ≡ quantified file plantTable segmentTable
+unfolding quantified judged
+room-enough file plantTable segmentTable = by-reading (periodFile file) refl
+  where
+    by-reading :
+        (outcome : Read Period) → periodFile file ≡ outcome →
+        afterReading outcome (min plantTable (plantNumbers * mostPlants)) (min segmentTable (segmentNumbers * mostSegments))
+        ≡ afterReading outcome plantTable segmentTable
+    by-reading (refused number place) e = refl
+    by-reading (read period place rest) e =
+        let within = read-within file period place rest e in
+        ap
+        (λ (tests : List Test).
+        tested (lineTests (period .lines) 0 (period .lines) ++ (segmentTests (accountsOf period) ++ tests)) (rows period (accountsOf period)))
+        (same-tests (length (period .plants)) (length (period .segments)) plantTable segmentTable (within .most-plants) (within .most-segments))

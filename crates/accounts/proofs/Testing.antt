@@ -1,0 +1,61 @@
+-- Tests in their order: the first that fails gives the answer, and where none fails the answer stands.
+use Prim.Native.Nat.{ℕ}
+use mathlib.Core.Path.{_≡_, refl, sym, ap}
+use mathlib.Core.Bool.{Bool, true, false, cond, true≢false}
+use mathlib.Core.List.{List, [], _∷_, _++_}
+use Rattle.accounts.specs.Order.{Answer, refusal, accepted, Test, tested, FirstFails, here, later, NoneFails, end, passed}
+
+-- a refusal is no acceptance
+pub refused-not-accepted : {number place : ℕ} {plants segments : List ℕ} → refusal number place ≡ accepted plants segments → ⊥
+refused-not-accepted e = true≢false (ap is-refusal e)
+  where
+    is-refusal : Answer → Bool
+    is-refusal (refusal number place) = true
+    is-refusal (accepted plants segments) = false
+
+-- ---- the first test that fails gives the answer
+pub first-answers : {tests : List Test} {number place : ℕ} (answer : Answer) → FirstFails tests number place → tested tests answer ≡ refusal number place
+unfolding tested
+first-answers answer (here h) = rw h
+first-answers answer (later h more) = rw h (first-answers answer more)
+
+-- and where the answer is a refusal, that test is there
+pub first-fails :
+    (tests : List Test) (number place : ℕ) (plants segments : List ℕ) → tested tests (accepted plants segments) ≡ refusal number place →
+    FirstFails tests number place
+unfolding tested
+first-fails [] number place plants segments e = absurd (refused-not-accepted (sym e))
+first-fails (test ∷ tests) number place plants segments e = by-test (test .fails) refl e (first-fails tests number place plants segments)
+  where
+    by-test :
+        (t : Bool) → test .fails ≡ t →
+        cond t (refusal (test .number) (test .place)) (tested tests (accepted plants segments)) ≡ refusal number place →
+        (tested tests (accepted plants segments) ≡ refusal number place → FirstFails tests number place) → FirstFails (test ∷ tests) number place
+    by-test true h e again =
+        let number-is : test .number ≡ number = cc in
+        let place-is : test .place ≡ place = cc in
+        rw (← number-is, ← place-is) (here h)
+    by-test false h e again = later h (again e)
+
+-- ---- where none fails, the answer stands
+pub none-answers : {tests : List Test} (answer : Answer) → NoneFails tests → tested tests answer ≡ answer
+unfolding tested
+none-answers answer end = refl
+none-answers answer (passed h more) = rw h (none-answers answer more)
+
+-- and where the answer is no refusal, none fails
+pub none-fails : (tests : List Test) (answer : Answer) (plants segments : List ℕ) → tested tests answer ≡ accepted plants segments → NoneFails tests
+unfolding tested
+none-fails [] answer plants segments e = end
+none-fails (test ∷ tests) answer plants segments e = by-test (test .fails) refl e (none-fails tests answer plants segments)
+  where
+    by-test :
+        (t : Bool) → test .fails ≡ t → cond t (refusal (test .number) (test .place)) (tested tests answer) ≡ accepted plants segments →
+        (tested tests answer ≡ accepted plants segments → NoneFails tests) → NoneFails (test ∷ tests)
+    by-test true h e again = absurd (refused-not-accepted e)
+    by-test false h e again = passed h (again e)
+
+-- of tests that follow others none fails where none of all does
+pub none-of-rest : (tests rest : List Test) → NoneFails (tests ++ rest) → NoneFails rest
+none-of-rest [] rest none = none
+none-of-rest (test ∷ tests) rest (passed h more) = none-of-rest tests rest more

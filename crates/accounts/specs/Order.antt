@@ -1,0 +1,76 @@
+-- "Order": the tests of a period that was read, one after another.
+use Prim.Native.Nat.{ℕ, suc, _*_}
+use mathlib.Core.Path.{_≡_}
+use mathlib.Core.Bool.{Bool, true, false, cond, _&&_}
+use mathlib.Core.List.{List, [], _∷_}
+use lib.ListN.{take}
+use lib.Dec.{ltb, eqb}
+use Rattle.number.specs.Groups.{largest}
+use Rattle.records.specs.declared.line.Line.{Line}
+use Rattle.records.specs.Refusals.{tooManyGrams, inflowTooLarge, outflowOverInflow, emissionWithoutInflow, plantTableShort, segmentTableShort}
+use Rattle.accounts.specs.Emissions.{mostGrams, gramsOf}
+use Rattle.accounts.specs.Accounts.{Account}
+
+-- Refused with number and place; or accepted, with the numbers of both tables.
+pub data Answer : Type 0 where
+  refusal : (number place : ℕ) → Answer
+  accepted : (plants segments : List ℕ) → Answer
+
+-- A test that refuses a period where it fails.
+pub record Test : Type 0 where
+  pub fails : Bool
+  pub number : ℕ
+  pub place : ℕ
+
+-- The first test that fails gives the answer.
+unfoldable pub tested : List Test → Answer → Answer
+tested [] answer = answer
+tested (test ∷ tests) answer = cond (test .fails) (refusal (test .number) (test .place)) (tested tests answer)
+
+-- Which test that is: it fails, and none before it does.
+pub data FirstFails : List Test → (number place : ℕ) → Type 0 where
+  here : {test : Test} {tests : List Test} → test .fails ≡ true → FirstFails (test ∷ tests) (test .number) (test .place)
+  later :
+      {test : Test} {tests : List Test} {number place : ℕ} → test .fails ≡ false → FirstFails tests number place →
+      FirstFails (test ∷ tests) number place
+
+-- None of them fails.
+pub data NoneFails : List Test → Type 0 where
+  end : NoneFails []
+  passed : {test : Test} {tests : List Test} → test .fails ≡ false → NoneFails tests → NoneFails (test ∷ tests)
+
+-- "Then 10 over the lines in file order": the total of the line's owner, up to and including this line
+unfoldable pub lineTests : List Line → (done : ℕ) → List Line → List Test
+lineTests lines done [] = []
+lineTests lines done (line ∷ rest) =
+    record {
+      fails = ltb mostGrams (gramsOf (line .«owner_kind») (line .owner) (take (suc done) lines));
+      number = tooManyGrams;
+      place = suc done;
+    }
+    ∷ lineTests lines (suc done) rest
+
+-- "Then for each segment in rising number 11, 12, 13"
+unfoldable pub segmentTests : List Account → List Test
+segmentTests [] = []
+segmentTests (a ∷ accounts) =
+    record { fails = ltb largest (a .inflow); number = inflowTooLarge; place = a .own }
+    ∷ record { fails = ltb (a .inflow) (a .outflow); number = outflowOverInflow; place = a .own }
+    ∷ record { fails = ltb 0 (a .emission) && eqb (a .inflow) 0; number = emissionWithoutInflow; place = a .own }
+    ∷ segmentTests accounts
+
+-- "Acceptance writes the first 8P and 5S numbers"
+abbrev pub plantNumbers : ℕ
+plantNumbers = 8
+
+abbrev pub segmentNumbers : ℕ
+segmentNumbers = 5
+
+-- "Then 14, then 15."
+abbrev pub tableTests : (plants segments plantTable segmentTable : ℕ) → List Test
+tableTests plants segments plantTable segmentTable =
+    let plantsNeed = plantNumbers * plants in
+    let segmentsNeed = segmentNumbers * segments in
+    record { fails = ltb plantTable plantsNeed; number = plantTableShort; place = plantsNeed }
+    ∷ record { fails = ltb segmentTable segmentsNeed; number = segmentTableShort; place = segmentsNeed }
+    ∷ []

@@ -1,0 +1,204 @@
+-- Requirement 3 on the lent tables: the theorems about an accepted file's rows, said of what an accepting call leaves in the tables that it
+-- was lent. They follow from the call's promise alone.
+use Prim.Native.Nat.{ℕ, _+_, _≤_, _<_}
+use mathlib.Core.Path.{_≡_, refl, sym, ap, _∙_}
+use mathlib.Core.List.{List}
+use mathlib.Core.Logic.{_≢_}
+use native.Mathlib.Nat.{mul-le-mul-left}
+use lib.Count.{ones}
+use lib.ListN.{length, drop, getD}
+use Rattle.records.specs.Segments.{noSegment}
+use Rattle.records.specs.Answers.{accepts, said}
+use Rattle.records.proofs.Verdicts.{refuses-not-accepts}
+use Rattle.accounts.specs.Walk.{nowhere, sum}
+use Rattle.accounts.specs.Accounts.{hasBit}
+use Rattle.accounts.specs.Order.{Answer, refusal, accepted, plantNumbers, segmentNumbers}
+use Rattle.accounts.specs.Quantified.{stores, quantified}
+use Rattle.accounts.specs.Accepted.{Accepted, held}
+use Rattle.accounts.specs.Tables.{rowAt, inRow, columnSum, exportedColumn, storedColumn, unitsColumn, inflowColumn, outflowColumn, lossColumn, emissionColumn, setColumn}
+use Rattle.accounts.specs.Shares.{turnAt, entering, leaving, charged}
+use Rattle.accounts.specs.Routes.{Alone, AloneInRows}
+use Rattle.accounts.specs.Changes.{OneLineLarger, OnlyItsOwn, SameFor}
+use Rattle.accounts.proofs.Accepting.{accepted-means}
+use Rattle.accounts.proofs.RowsAt.{row-front, plant-row-at, plants-long, segments-long, column-same}
+use Rattle.accounts.proofs.ProportionalPart.{Credited, proportional-part}
+use Rattle.accounts.proofs.CreditsAddUp.{credits-add-up, inflow-told, outflow-told}
+use Rattle.accounts.proofs.Balance.{balance}
+use Rattle.accounts.proofs.AloneOnItsRoute.{alone-on-its-route, sets-tell}
+use Rattle.accounts.proofs.LargerLine.{larger-line}
+use Rattle.accounts.proofs.OthersFractionAndLines.{others-fraction-and-lines, no-segment-changes}
+use Rattle.accounts.proofs.ChargesAddUp.{AddUp, charges-add-up}
+use Rattle.period.specs.declared.call.Quantified.{Quantified}
+use Rattle.period.specs.Written.{verdictOf, plantsAfter, segmentsAfter}
+use Rattle.period.proofs.Outcome.{Promised}
+
+-- The call was lent some tables, accepted the file, and left these.
+pub record Left (file plants segments : List ℕ) : Type 0 where
+  pub plants-before : List ℕ
+  pub segments-before : List ℕ
+  pub told : Quantified
+  pub promised : Promised file plants-before segments-before told plants segments
+  pub accepting : said (told .answer) ≡ accepts
+
+-- ---- the tables hold the rows of an accepted file
+record Rows (file plants segments : List ℕ) : Type 0 where
+  plant-numbers : List ℕ
+  segment-numbers : List ℕ
+  accepted-file : Accepted file plant-numbers segment-numbers
+  plant-rows : (index : ℕ) → index < length (held file .plants) → rowAt plantNumbers index plants ≡ rowAt plantNumbers index plant-numbers
+  segment-rows : (index : ℕ) → index < length (held file .segments) → rowAt segmentNumbers index segments ≡ rowAt segmentNumbers index segment-numbers
+
+rows-left : {file plants segments : List ℕ} → Left file plants segments → Rows file plants segments
+rows-left {file} {plants} {segments} left =
+    by-answer
+    (quantified file (length (left .plants-before)) (length (left .segments-before))) refl
+    (sym (left .promised .answers .verdict) ∙ left .accepting) (left .promised .plants-after) (left .promised .segments-after)
+  where
+    by-answer :
+        (answer : Answer) → quantified file (length (left .plants-before)) (length (left .segments-before)) ≡ answer → verdictOf answer ≡ accepts →
+        plants ≡ plantsAfter answer (left .plants-before) → segments ≡ segmentsAfter answer (left .segments-before) → Rows file plants segments
+    by-answer (refusal number place) is verdict of-plants of-segments = absurd (refuses-not-accepts verdict)
+    by-answer (accepted plant-numbers segment-numbers) is verdict of-plants of-segments =
+        let file-accepted : Accepted file plant-numbers segment-numbers =
+        record { plantTable = length (left .plants-before); segmentTable = length (left .segments-before); answer = is } in
+        let means = accepted-means file-accepted in
+        record {
+          plant-numbers = plant-numbers;
+          segment-numbers = segment-numbers;
+          accepted-file = file-accepted;
+          plant-rows =
+              λ index below.
+              ap (rowAt plantNumbers index) of-plants
+              ∙ row-front
+              plantNumbers index plant-numbers (drop (length plant-numbers) (left .plants-before))
+              (rw (plants-long means) (mul-le-mul-left plantNumbers below));
+          segment-rows =
+              λ index below.
+              ap (rowAt segmentNumbers index) of-segments
+              ∙ row-front
+              segmentNumbers index segment-numbers (drop (length segment-numbers) (left .segments-before))
+              (rw (segments-long means) (mul-le-mul-left segmentNumbers below));
+        }
+
+-- ---- one call
+module _ {file plants segments : List ℕ} (left : Left file plants segments) where
+  abbrev P : ℕ
+  P = length (held file .plants)
+
+  abbrev S : ℕ
+  S = length (held file .segments)
+
+  -- a number of a row is that of the accepted file
+  of-plant : (p column : ℕ) → p < P → inRow plantNumbers p column plants ≡ inRow plantNumbers p column (rows-left left .plant-numbers)
+  of-plant p column plant = ap (λ (row : List ℕ). getD row column 0) (rows-left left .plant-rows p plant)
+
+  of-segment : (s column : ℕ) → s < S → inRow segmentNumbers s column segments ≡ inRow segmentNumbers s column (rows-left left .segment-numbers)
+  of-segment s column segment = ap (λ (row : List ℕ). getD row column 0) (rows-left left .segment-rows s segment)
+
+  -- 1: where the segment's row shows inflow, each plant is credited its proportional part
+  pub proportional-part-left :
+      (s p : ℕ) → s < S → p < P → 0 < inRow segmentNumbers s inflowColumn segments → Credited (turnAt (held file) s) p
+  proportional-part-left s p segment plant some =
+      proportional-part (rows-left left .accepted-file) s p segment plant
+      (rw (inflow-told (rows-left left .accepted-file) s segment, ← of-segment s inflowColumn segment) some)
+
+  -- and what is stored stands in its row
+  pub stored-left : (p : ℕ) → p < P → inRow plantNumbers p storedColumn plants ≡ getD (stores (held file)) p nowhere .amount
+  stored-left p plant =
+      of-plant p storedColumn plant
+      ∙ ap (λ (row : List ℕ). getD row storedColumn 0) (plant-row-at (accepted-means (rows-left left .accepted-file)) p plant)
+
+  -- 2: what the plants bring adds up to the inflow in the segment's row, and their credits to the outflow there, which is the metered one
+  pub credits-add-up-left :
+      (s : ℕ) → s < S →
+      (sum (entering (turnAt (held file) s)) ≡ inRow segmentNumbers s inflowColumn segments)
+      × (sum (leaving (turnAt (held file) s)) ≡ inRow segmentNumbers s outflowColumn segments)
+      × (inRow segmentNumbers s outflowColumn segments ≡ getD (held file .segments) s noSegment .outflow)
+  credits-add-up-left s segment =
+      let given = rows-left left .accepted-file in
+      let out = outflow-told given s segment ∙ sym (of-segment s outflowColumn segment) in
+      (inflow-told given s segment ∙ sym (of-segment s inflowColumn segment), out, sym out ∙ credits-add-up given s segment)
+
+  -- 3: all exports are all that is stored and what every segment lost
+  pub balance-left :
+      columnSum plantNumbers exportedColumn P plants ≡ columnSum plantNumbers storedColumn P plants + columnSum segmentNumbers lossColumn S segments
+  balance-left =
+      rw (
+        column-same plantNumbers exportedColumn P (rows-left left .plant-numbers) plants (rows-left left .plant-rows),
+        column-same plantNumbers storedColumn P (rows-left left .plant-numbers) plants (rows-left left .plant-rows),
+        column-same segmentNumbers lossColumn S (rows-left left .segment-numbers) segments (rows-left left .segment-rows),
+      )
+      (balance (rows-left left .accepted-file))
+
+  -- 7: what a segment charges adds up to no less than its emission, and to less than that and one kg for each plant of its set
+  pub charges-add-up-left :
+      (s : ℕ) → s < S →
+      AddUp
+      (inRow segmentNumbers s emissionColumn segments)
+      (inRow segmentNumbers s inflowColumn segments)
+      (ones (inRow segmentNumbers s setColumn segments))
+      (sum (charged (held file .lines) (turnAt (held file) s)))
+  charges-add-up-left s segment =
+      rw (of-segment s emissionColumn segment, of-segment s inflowColumn segment, of-segment s setColumn segment)
+      (charges-add-up (rows-left left .accepted-file) s segment)
+
+  -- 5: the sets in the segments' rows tell where a plant is alone on its route
+  pub sets-tell-left : (index : ℕ) → index < P → AloneInRows segments S index → Alone (held file) index
+  sets-tell-left index there alone =
+      sets-tell (rows-left left .accepted-file) index there .0
+      (λ s segment has.
+      sym (of-segment s setColumn segment) ∙ alone s segment (ap (λ (set : ℕ). hasBit set index) (of-segment s setColumn segment) ∙ has))
+
+-- ---- two calls
+module _
+    {file₁ plants₁ segments₁ file₂ plants₂ segments₂ : List ℕ} (left₁ : Left file₁ plants₁ segments₁) (left₂ : Left file₂ plants₂ segments₂)
+  where
+    -- a plant that is in both and has the same row in both files' numbers has it in both tables
+    same-plant-row :
+        (index : ℕ) → index < length (held file₁ .plants) → index < length (held file₂ .plants) →
+        rowAt plantNumbers index (rows-left left₂ .plant-numbers) ≡ rowAt plantNumbers index (rows-left left₁ .plant-numbers) →
+        rowAt plantNumbers index plants₂ ≡ rowAt plantNumbers index plants₁
+    same-plant-row index below₁ below₂ same =
+        rows-left left₂ .plant-rows index below₂ ∙ same ∙ sym (rows-left left₁ .plant-rows index below₁)
+
+    -- 4: the period with the larger line gives no plant more units
+    pub larger-line-left :
+        OneLineLarger (held file₁) (held file₂) → (index : ℕ) → index < length (held file₁ .plants) →
+        inRow plantNumbers index unitsColumn plants₂ ≤ inRow plantNumbers index unitsColumn plants₁
+    larger-line-left larger index below =
+        rw (of-plant left₂ index unitsColumn (rw (larger .plants) below), of-plant left₁ index unitsColumn below)
+        (larger-line (rows-left left₁ .accepted-file) (rows-left left₂ .accepted-file) larger index below)
+
+    -- 5: a plant that is alone on its route in both, and the same, has the same row
+    pub alone-on-its-route-left :
+        (index : ℕ) → index < length (held file₁ .plants) → index < length (held file₂ .plants) → SameFor index (held file₁) (held file₂) →
+        Alone (held file₁) index → Alone (held file₂) index → rowAt plantNumbers index plants₂ ≡ rowAt plantNumbers index plants₁
+    alone-on-its-route-left index there₁ there₂ same alone₁ alone₂ =
+        same-plant-row index there₁ there₂
+        (alone-on-its-route (rows-left left₁ .accepted-file) (rows-left left₂ .accepted-file) index there₁ there₂ same alone₁ alone₂)
+
+    -- also where the sets in the segments' rows tell that it is alone
+    pub alone-by-sets-left :
+        (index : ℕ) → index < length (held file₁ .plants) → index < length (held file₂ .plants) → SameFor index (held file₁) (held file₂) →
+        AloneInRows segments₁ (length (held file₁ .segments)) index → AloneInRows segments₂ (length (held file₂ .segments)) index →
+        rowAt plantNumbers index plants₂ ≡ rowAt plantNumbers index plants₁
+    alone-by-sets-left index there₁ there₂ same alone₁ alone₂ =
+        alone-on-its-route-left index there₁ there₂ same (sets-tell-left left₁ index there₁ alone₁) (sets-tell-left left₂ index there₂ alone₂)
+
+    -- 6: another plant's origin fraction and own lines change no row but its own
+    pub others-fraction-and-lines-left :
+        (other : ℕ) → OnlyItsOwn other (held file₁) (held file₂) → (index : ℕ) → index < length (held file₁ .plants) → index ≢ other →
+        rowAt plantNumbers index plants₂ ≡ rowAt plantNumbers index plants₁
+    others-fraction-and-lines-left other change index below apart =
+        same-plant-row index below (rw (change .count) below)
+        (others-fraction-and-lines (rows-left left₁ .accepted-file) (rows-left left₂ .accepted-file) other change index below apart)
+
+    pub no-segment-changes-left :
+        (other : ℕ) → OnlyItsOwn other (held file₁) (held file₂) → (index : ℕ) → index < length (held file₁ .segments) →
+        rowAt segmentNumbers index segments₂ ≡ rowAt segmentNumbers index segments₁
+    no-segment-changes-left other change index below =
+        rows-left left₂ .segment-rows index (rw (change .segments) below)
+        ∙ ap
+        (rowAt segmentNumbers index)
+        (no-segment-changes (rows-left left₁ .accepted-file) (rows-left left₂ .accepted-file) other change)
+        ∙ sym (rows-left left₁ .segment-rows index below)
