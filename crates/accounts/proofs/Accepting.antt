@@ -1,26 +1,68 @@
 -- What acceptance means: the period that the file holds, what every segment of it satisfies, and the rows.
-use Prim.Native.Nat.{ℕ, zero, suc, _≤_, _<_}
-use mathlib.Core.Path.{_≡_, refl, sym, _∙_}
-use mathlib.Core.Bool.{true, false, _&&_, true≢false}
+use Prim.Native.Nat.{ℕ, zero, suc, _+_, _*_, _≤_, _<_}
+use mathlib.Core.Path.{_≡_, refl, sym, ap, _∙_}
+use mathlib.Core.Bool.{Bool, true, false, cond, _&&_, true≢false}
 use mathlib.Core.List.{List, [], _∷_, _++_}
 use mathlib.Core.Logic.{_⊎_, inl, inr}
+use native.Mathlib.Numerals.{add-one}
 use native.Mathlib.Omega.{arith}
 use lib.Dec.{ltb, eqb}
-use lib.ListN.{length, getD, length-map}
+use lib.ListN.{length, getD, take, drop, length-map, take-append-drop}
+use lib.Seq.{drop-drop}
 use borrow.Author.Tests.{ltb-false, lt-ltb, eq-eqb}
 use Rattle.number.specs.Groups.{largest}
+use Rattle.records.specs.declared.line.Line.{Line}
 use Rattle.records.specs.Fields.{Read, read, refused}
 use Rattle.records.specs.Periods.{Period, periodFile}
 use Rattle.records.specs.Within.{Within}
 use Rattle.records.proofs.Within.{read-within}
+use Rattle.accounts.specs.Emissions.{mostGrams, grams, ownedBy, gramsOf}
 use Rattle.accounts.specs.Accounts.{Account, account}
 use Rattle.accounts.specs.Rows.{plantRows, segmentRows}
-use Rattle.accounts.specs.Order.{accepted, Test, NoneFails, passed, lineTests, segmentTests, tableTests}
+use Rattle.accounts.specs.Order.{accepted, Test, NoneFails, passed, lineTests, segmentTests, plantNumbers, segmentNumbers, tableTests}
 use Rattle.accounts.specs.Quantified.{started, walk, accountsOf, stores, rows, judged, afterReading, quantified}
 use Rattle.accounts.specs.Accepted.{Accepted, heldBy, held}
 use Rattle.accounts.specs.Shares.{noTurn, accountAt}
-use Rattle.accounts.proofs.Testing.{refused-not-accepted, none-answers, none-fails, none-of-rest}
+use Rattle.accounts.proofs.Testing.{refused-not-accepted, none-answers, none-fails, none-of-both}
 use Rattle.accounts.proofs.Walks.{getD-map, turns-length}
+use Rattle.accounts.proofs.OwnersLines.{owner-is, grams-of-both}
+
+-- ---- what the lines satisfy when 10 does not refuse one of them
+-- an owner's total is the one up to any line and that of the lines behind it
+grams-split :
+    (ownerKind owner : ℕ) (lines : List Line) (done : ℕ) →
+    gramsOf ownerKind owner lines ≡ gramsOf ownerKind owner (take done lines) + gramsOf ownerKind owner (drop done lines)
+grams-split ownerKind owner lines done =
+    ap (gramsOf ownerKind owner) (sym (take-append-drop done lines)) ∙ grams-of-both ownerKind owner (take done lines) (drop done lines)
+
+-- no owner's total passes the limit: its own lines are tested with the total up to them, and the lines of others add nothing to it
+grams-each :
+    (ownerKind owner : ℕ) (lines : List Line) (done : ℕ) (left : List Line) → drop done lines ≡ left →
+    NoneFails (lineTests lines done left) → gramsOf ownerKind owner (take done lines) ≤ mostGrams →
+    gramsOf ownerKind owner lines ≤ mostGrams
+unfolding gramsOf lineTests
+grams-each ownerKind owner lines done [] is none few =
+    let behind : gramsOf ownerKind owner (drop done lines) ≡ 0 = ap (gramsOf ownerKind owner) is in
+    omega (arith, grams-split ownerKind owner lines done)
+grams-each ownerKind owner lines done (line ∷ left) is (passed test more) few =
+    grams-each ownerKind owner lines (suc done) left left-is more (by-owner (ownedBy ownerKind owner line) refl)
+  where
+    left-is : drop (suc done) lines ≡ left
+    left-is = ap (λ (n : ℕ). drop n lines) (sym (add-one done)) ∙ sym (drop-drop 1 done lines) ∙ ap (drop 1) is
+
+    one-more :
+        gramsOf ownerKind owner (take (suc done) lines)
+        ≡ gramsOf ownerKind owner (take done lines) + cond (ownedBy ownerKind owner line) (grams line) 0
+    one-more =
+        let here = ap (gramsOf ownerKind owner) is in
+        let behind = ap (gramsOf ownerKind owner) left-is in
+        omega (arith, grams-split ownerKind owner lines done, grams-split ownerKind owner lines (suc done), here, behind)
+
+    by-owner : (its : Bool) → ownedBy ownerKind owner line ≡ its → gramsOf ownerKind owner (take (suc done) lines) ≤ mostGrams
+    by-owner true o =
+        let same = owner-is ownerKind owner line o in
+        rw (← same .0, ← same .1) (ltb-false mostGrams (gramsOf (line .«owner_kind») (line .owner) (take (suc done) lines)) test)
+    by-owner false o = omega (arith, rw o at one-more, few)
 
 -- ---- what a segment's account satisfies when 11, 12 and 13 do not refuse it
 pub record Sound (a : Account) : Type 0 where
@@ -38,21 +80,22 @@ charged-somewhere (suc emission) zero e = absurd (true≢false (sym both ∙ e))
 charged-somewhere (suc emission) (suc inflow) e = inr (omega arith)
 
 sound-each :
-    (accounts : List Account) (rest : List Test) → NoneFails (segmentTests accounts ++ rest) →
+    (accounts : List Account) → NoneFails (segmentTests accounts) →
     (index : ℕ) (none : Account) → index < length accounts → Sound (getD accounts index none)
 unfolding segmentTests
-sound-each [] rest passing index none below = absurd (omega (arith, below))
-sound-each (a ∷ accounts) rest (passed i (passed o (passed e more))) zero none below = record {
+sound-each [] passing index none below = absurd (omega (arith, below))
+sound-each (a ∷ accounts) (passed i (passed o (passed e more))) zero none below = record {
   inflow = ltb-false largest (a .inflow) i;
   outflow = ltb-false (a .inflow) (a .outflow) o;
   emission = charged-somewhere (a .emission) (a .inflow) e;
 }
-sound-each (a ∷ accounts) rest (passed i (passed o (passed e more))) (suc index) none below =
-    sound-each accounts rest more index none (omega (arith, below))
+sound-each (a ∷ accounts) (passed i (passed o (passed e more))) (suc index) none below =
+    sound-each accounts more index none (omega (arith, below))
 
 -- ---- the whole period
 pub record Means (period : Period) (plants segments : List ℕ) : Type 0 where
   pub within : Within period
+  pub grams : (ownerKind owner : ℕ) → gramsOf ownerKind owner (period .lines) ≤ mostGrams
   pub sound : (index : ℕ) → index < length (period .segments) → Sound (accountAt period index)
   pub plants-are : plants ≡ plantRows (period .lines) (accountsOf period) 0 (period .plants) (stores period)
   pub segments-are : segments ≡ segmentRows (accountsOf period)
@@ -69,29 +112,61 @@ unfolding accountsOf
 account-at period index none below =
     getD-map (account (period .lines)) (walk period) index noTurn none (rw (turns-length 1 (period .segments) (started period)) below)
 
--- a period that was read and passed all tests
-judged-means :
-    (period : Period) (plantTable segmentTable : ℕ) (plants segments : List ℕ) → Within period →
-    judged period (accountsOf period) plantTable segmentTable ≡ accepted plants segments → Means period plants segments
-unfolding judged rows
-judged-means period plantTable segmentTable plants segments within e =
-    let accounts : List Account = accountsOf period in
-    let tables = tableTests (length (period .plants)) (length (period .segments)) plantTable segmentTable in
-    let of-lines = lineTests (period .lines) 0 (period .lines) in
-    let none = none-fails (of-lines ++ (segmentTests accounts ++ tables)) (rows period accounts) plants segments e in
-    let rows-are : rows period accounts ≡ accepted plants segments = sym (none-answers (rows period accounts) none) ∙ e in
-    record {
-      within = within;
-      sound =
-          λ index below.
-          let a : Account = accountAt period index in
-          rw (account-at period index a below)
-          at (sound-each accounts tables (none-of-rest of-lines (segmentTests accounts ++ tables) none) index a (rw (accounts-length period) below));
-      plants-are = cc;
-      segments-are = cc;
-    }
+-- ---- a period that was read and then accepted
+module _
+    (period : Period) (plantTable segmentTable : ℕ) (plants segments : List ℕ)
+    (accepting : judged period (accountsOf period) plantTable segmentTable ≡ accepted plants segments) where
+  abbrev of-lines : List Test
+  of-lines = lineTests (period .lines) 0 (period .lines)
 
--- a file that is accepted
+  abbrev of-segments : List Test
+  of-segments = segmentTests (accountsOf period)
+
+  abbrev of-tables : List Test
+  of-tables = tableTests (length (period .plants)) (length (period .segments)) plantTable segmentTable
+
+  -- none of its tests fails, and the answer is its rows
+  none : NoneFails (of-lines ++ (of-segments ++ of-tables))
+  unfolding judged
+  none = none-fails (of-lines ++ (of-segments ++ of-tables)) (rows period (accountsOf period)) plants segments accepting
+
+  rows-are : rows period (accountsOf period) ≡ accepted plants segments
+  unfolding judged
+  rows-are = sym (none-answers (rows period (accountsOf period)) none) ∙ accepting
+
+  none-behind : NoneFails (of-segments ++ of-tables)
+  none-behind = none-of-both of-lines (of-segments ++ of-tables) none .1
+
+  -- so it is within the limits of 10 to 13
+  judged-means : Within period → Means period plants segments
+  unfolding rows gramsOf
+  judged-means within =
+      let are = rows-are in
+      record {
+        within = within;
+        grams =
+            λ ownerKind owner.
+            grams-each
+            ownerKind owner (period .lines) 0 (period .lines) refl (none-of-both of-lines (of-segments ++ of-tables) none .0) (omega arith);
+        sound =
+            λ index below.
+            let a : Account = accountAt period index in
+            rw (account-at period index a below)
+            at (sound-each (accountsOf period) (none-of-both of-segments of-tables none-behind .0) index a (rw (accounts-length period) below));
+        plants-are = cc are;
+        segments-are = cc are;
+      }
+
+  -- and each table is as long as 14 and 15 ask
+  judged-room : (plantNumbers * length (period .plants) ≤ plantTable) × (segmentNumbers * length (period .segments) ≤ segmentTable)
+  judged-room = by-tests (none-of-both of-segments of-tables none-behind .1)
+    where
+      by-tests : NoneFails of-tables → (plantNumbers * length (period .plants) ≤ plantTable) × (segmentNumbers * length (period .segments) ≤ segmentTable)
+      by-tests (passed p (passed s rest)) =
+          (ltb-false plantTable (plantNumbers * length (period .plants)) p, ltb-false segmentTable (segmentNumbers * length (period .segments)) s)
+
+-- ---- a file that is accepted
+-- what its period satisfies, and its rows
 pub accepted-means : {file plants segments : List ℕ} → Accepted file plants segments → Means (held file) plants segments
 unfolding quantified held
 accepted-means {file} {plants} {segments} given = by-reading (periodFile file) refl (given .answer)
@@ -101,4 +176,17 @@ accepted-means {file} {plants} {segments} given = by-reading (periodFile file) r
         afterReading outcome (given .plantTable) (given .segmentTable) ≡ accepted plants segments → Means (heldBy outcome) plants segments
     by-reading (refused number place) r e = absurd (refused-not-accepted e)
     by-reading (read period place rest) r e =
-        judged-means period (given .plantTable) (given .segmentTable) plants segments (read-within file period place rest r) e
+        judged-means period (given .plantTable) (given .segmentTable) plants segments e (read-within file period place rest r)
+
+-- how long its tables are
+pub accepted-lengths :
+    {file plants segments : List ℕ} (given : Accepted file plants segments) →
+    (plantNumbers * length (held file .plants) ≤ given .plantTable) × (segmentNumbers * length (held file .segments) ≤ given .segmentTable)
+unfolding quantified held
+accepted-lengths {file} {plants} {segments} given = by-reading (periodFile file) (given .answer)
+  where
+    by-reading :
+        (outcome : Read Period) → afterReading outcome (given .plantTable) (given .segmentTable) ≡ accepted plants segments →
+        (plantNumbers * length (heldBy outcome .plants) ≤ given .plantTable) × (segmentNumbers * length (heldBy outcome .segments) ≤ given .segmentTable)
+    by-reading (refused number place) e = absurd (refused-not-accepted e)
+    by-reading (read period place rest) e = judged-room period (given .plantTable) (given .segmentTable) plants segments e

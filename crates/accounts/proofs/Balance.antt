@@ -32,7 +32,7 @@ amountsOf = map amountOf
 -- ---- one turn
 module _ (own next : ℕ) where
   -- a plant that passes gives its amount for its credit; one that does not keeps its amount and is credited nothing
-  one-sent :
+  pub one-sent :
       (standing : Standing) (credit : ℕ) → credit ≤ brings own standing →
       sentOn own next standing credit .amount + brings own standing ≡ standing .amount + credit
   one-sent standing credit less = by-test (passes own standing) refl less

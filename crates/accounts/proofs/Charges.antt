@@ -2,7 +2,7 @@
 use Prim.Native.Nat.{ℕ, zero, suc, _+_, _-_, _*_, _≤_, _<_}
 use mathlib.Core.Path.{_≡_, refl}
 use mathlib.Core.List.{List}
-use native.Mathlib.Nat.{le-trans, zero-mul, mul-le-mul-left, div-zero, div-mul-le-self, div-lt-iff-lt-mul, lt-div-mul-add}
+use native.Mathlib.Nat.{le-trans, zero-mul, mul-comm, mul-le-mul-left, div-zero, div-mul-le-self, div-lt-iff-lt-mul, lt-div-mul-add}
 use native.Mathlib.Omega.{arith}
 use lib.ListN.{getD}
 use Rattle.records.specs.declared.line.Line.{Line}
@@ -11,7 +11,7 @@ use Rattle.accounts.specs.Emissions.{emission}
 use Rattle.accounts.specs.Walk.{sum, Turn}
 use Rattle.accounts.specs.Accounts.{Account, account, charge, chargeTo}
 use Rattle.accounts.specs.Shares.{entering}
-use Rattle.accounts.proofs.Credits.{div-mono}
+use Rattle.accounts.proofs.Credits.{div-mono, up-most}
 
 -- ---- a segment's account, and the charge for an amount
 module _ (a : Account) where
@@ -37,6 +37,11 @@ module _ (a : Account) where
   -- by less than one kg
   pub charge-most : (amount : ℕ) → charge a amount * a .inflow ≤ amount * a .emission + (a .inflow - 1)
   charge-most amount = le-trans (div-mul-le-self _ (a .inflow)) (omega arith)
+
+  -- for no more than the inflow it is no more than the emission
+  pub charge-within : (amount : ℕ) → amount ≤ a .inflow → charge a amount ≤ a .emission
+  charge-within amount part =
+      up-most (a .inflow) (amount * a .emission) (a .emission) (omega (arith, mul-le-mul-left (a .emission) part, mul-comm amount (a .emission)))
 
 -- ---- where the lines give a segment a larger emission, no plant's charge there is less: its amount and the inflow are the same
 pub charge-no-less :

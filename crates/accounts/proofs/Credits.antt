@@ -42,7 +42,7 @@ div-sum (suc d) m n =
 
 -- ---- rounded up
 -- no more than any number that is large enough
-up-most : (d n most : ℕ) → n ≤ most * d → roundedUp n d ≤ most
+pub up-most : (d n most : ℕ) → n ≤ most * d → roundedUp n d ≤ most
 up-most zero n most h = omega (arith, div-zero (n + (0 - 1)))
 up-most (suc d) n most h =
     let below : roundedUp n (suc d) < suc most = div-lt-iff-lt-mul {k = suc d} (omega arith) .1 (omega (arith, h)) in

@@ -11,7 +11,7 @@ pub mod Testing
 pub mod Accepting
 pub mod RowsAt
 pub mod Turned
--- What reading refuses is refused; a table with room for the most rows is answered as a longer one.
+-- What reading refuses is refused; a table with room for the most rows is answered as a longer one, and an accepted file's rows have room.
 pub mod Refused
 pub mod Room
 -- Bytes past the longest file cannot change the answer.
@@ -29,8 +29,12 @@ pub mod LargerLine
 pub mod OthersFractionAndLines
 pub mod ChargesAddUp
 pub mod ChargesCounted
+-- The numbers of both tables are 64-bit numbers.
+pub mod Fits
 -- A file is refused exactly for the first of 01's reasons that holds, and accepted exactly where none does.
 mod Places
 pub mod Order
+-- No refusal has the number 0.
+pub mod Numbered
 -- The whole period of 01 and its proved cases.
 pub mod Examples

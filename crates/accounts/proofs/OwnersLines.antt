@@ -2,7 +2,7 @@
 use Prim.Native.Nat.{ℕ, _+_}
 use mathlib.Core.Path.{_≡_, refl, sym, ap, _∙_}
 use mathlib.Core.Bool.{Bool, true, false, cond, not, _&&_, true≢false}
-use mathlib.Core.List.{List, [], _∷_}
+use mathlib.Core.List.{List, [], _∷_, _++_}
 use native.Mathlib.Omega.{arith}
 use lib.Dec.{eqb}
 use borrow.Author.Tests.{eqb-true}
@@ -11,7 +11,7 @@ use Rattle.accounts.specs.Emissions.{inKg, grams, ownedBy, chosen, grams
 
 module _ (ownerKind owner : ℕ) where
   -- a line of an owner has the owner's kind and number
-  owner-is : (line : Line) → ownedBy ownerKind owner line ≡ true → (line .«owner_kind» ≡ ownerKind) × (line .owner ≡ owner)
+  pub owner-is : (line : Line) → ownedBy ownerKind owner line ≡ true → (line .«owner_kind» ≡ ownerKind) × (line .owner ≡ owner)
   owner-is line its = by-tests (eqb (line .«owner_kind») ownerKind) (eqb (line .owner) owner) refl refl its
     where
       by-tests :
@@ -20,6 +20,13 @@ module _ (ownerKind owner : ℕ) where
       by-tests true true k n e = (eqb-true (line .«owner_kind») ownerKind k, eqb-true (line .owner) owner n)
       by-tests true false k n e = absurd (true≢false (sym e))
       by-tests false number k n e = absurd (true≢false (sym e))
+
+  -- the grams of some lines and of those behind them are added
+  pub grams-of-both :
+      (lines behind : List Line) → gramsOf ownerKind owner (lines ++ behind) ≡ gramsOf ownerKind owner lines + gramsOf ownerKind owner behind
+  unfolding gramsOf
+  grams-of-both [] behind = omega arith
+  grams-of-both (line ∷ lines) behind = omega (arith, grams-of-both lines behind)
 
   -- ---- a choice that keeps all lines of the owner
   module _ (choose : Line → Bool) (kept : (line : Line) → ownedBy ownerKind owner line ≡ true → choose line ≡ true) where

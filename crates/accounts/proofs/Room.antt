@@ -1,4 +1,4 @@
--- Tables with room for the most plants and segments get the same answer as longer ones.
+-- Tables with room for the most plants and segments get the same answer as longer ones; and an accepted file's numbers have room in its tables.
 use Prim.Native.Nat.{ℕ, _*_, _≤_, min}
 use mathlib.Core.Path.{_≡_, refl, ap}
 use mathlib.Core.Bool.{Bool, true, false}
@@ -14,6 +14,9 @@ use Rattle.records.specs.Periods.{Period, periodFile}
 use Rattle.records.proofs.Within.{read-within}
 use Rattle.accounts.specs.Order.{Test, tested, lineTests, segmentTests, plantNumbers, segmentNumbers, tableTests}
 use Rattle.accounts.specs.Quantified.{accountsOf, rows, judged, afterReading, quantified}
+use Rattle.accounts.specs.Accepted.{Accepted}
+use Rattle.accounts.proofs.Accepting.{accepted-means, accepted-lengths}
+use Rattle.accounts.proofs.RowsAt.{plants-long, segments-long}
 
 -- whether a table is too short for rows that need no more than the most
 same-test : (table most need : ℕ) → need ≤ most → ltb (min table most) need ≡ ltb table need
@@ -51,3 +54,9 @@ room-enough file plantTable segmentTable = by-reading (periodFile file) refl
         (λ (tests : List Test).
         tested (lineTests (period .lines) 0 (period .lines) ++ (segmentTests (accountsOf period) ++ tests)) (rows period (accountsOf period)))
         (same-tests (length (period .plants)) (length (period .segments)) plantTable segmentTable (within .most-plants) (within .most-segments))
+
+-- ---- an accepted file's numbers have room in its tables
+pub accepted-room :
+    {file plants segments : List ℕ} (given : Accepted file plants segments) →
+    (length plants ≤ given .plantTable) × (length segments ≤ given .segmentTable)
+accepted-room given = rw (plants-long (accepted-means given), segments-long (accepted-means given)) (accepted-lengths given)

@@ -55,7 +55,7 @@ none-fails (test ∷ tests) answer plants segments e = by-test (test .fails) ref
     by-test true h e again = absurd (refused-not-accepted e)
     by-test false h e again = passed h (again e)
 
--- of tests that follow others none fails where none of all does
-pub none-of-rest : (tests rest : List Test) → NoneFails (tests ++ rest) → NoneFails rest
-none-of-rest [] rest none = none
-none-of-rest (test ∷ tests) rest (passed h more) = none-of-rest tests rest more
+-- where none of all tests fails, none of the first ones and none of those behind them does
+pub none-of-both : (tests rest : List Test) → NoneFails (tests ++ rest) → NoneFails tests × NoneFails rest
+none-of-both [] rest none = (end, none)
+none-of-both (test ∷ tests) rest (passed h more) = let both = none-of-both tests rest more in (passed h (both .0), both .1)

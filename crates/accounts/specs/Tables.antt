@@ -1,5 +1,5 @@
 -- The numbers of the two tables, by their rows: where the results of plants and segments stand.
-use Prim.Native.Nat.{ℕ, zero, suc, _+_, _*_}
+use Prim.Native.Nat.{ℕ, zero, suc, _+_, _*_, _^_, _<_}
 use mathlib.Core.List.{List}
 use lib.ListN.{take, drop, getD}
 
@@ -15,6 +15,13 @@ inRow numbers index column table = getD (rowAt numbers index table) column 0
 unfoldable pub columnSum : (numbers column count : ℕ) → List ℕ → ℕ
 columnSum numbers column zero table = 0
 columnSum numbers column (suc count) table = columnSum numbers column count table + inRow numbers count column table
+
+-- "Table entries are 64-bit numbers": each of a table's numbers is one
+abbrev pub entryBits : ℕ
+entryBits = 64
+
+abbrev pub Entries : List ℕ → Type 0
+Entries table = (i : ℕ) → getD table i 0 < 2 ^ entryBits
 
 -- the columns of the plant table that the theorems name: "exported; stored; .. associated = ..; .. units = .."
 abbrev pub exportedColumn : ℕ

@@ -15,7 +15,7 @@ pub record BytesWritten (table : List ℕ) (at number : ℕ) (written : List ℕ
   pub others : drop b (eightBytes number) ≡ bytesOf (numberBytes - b) left
 
 -- there are so many bytes
-length-bytes : (count number : ℕ) → length (bytesOf count number) ≡ count
+pub length-bytes : (count number : ℕ) → length (bytesOf count number) ≡ count
 unfolding bytesOf
 length-bytes zero number = refl
 length-bytes (suc count) number = ap suc (length-bytes count (number / byteValues))
@@ -69,7 +69,7 @@ pub record NumbersWritten (table numbers : List ℕ) (count : ℕ) (written : Li
   pub so-far : written ≡ flatMap eightBytes (take n numbers) ++ drop (numberBytes * n) table
 
 -- eight times as many bytes as numbers
-length-all : (numbers : List ℕ) → length (flatMap eightBytes numbers) ≡ numberBytes * length numbers
+pub length-all : (numbers : List ℕ) → length (flatMap eightBytes numbers) ≡ numberBytes * length numbers
 unfolding flatMap
 length-all [] = refl
 length-all (number ∷ numbers) =

@@ -4,3 +4,5 @@ mod Bytes
 mod Tables
 -- No two outcomes meet the promise.
 pub mod Outcome
+-- The tables of the C caller, read as numbers.
+pub mod LentBytes

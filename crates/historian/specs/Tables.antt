@@ -1,8 +1,8 @@
 -- The tables of a C caller: "for the C caller a table is bytes, eight a number, least significant first, its length counted in whole
 -- numbers".
-use Prim.Native.Nat.{ℕ, zero, suc, _*_, _/_, _%_}
+use Prim.Native.Nat.{ℕ, zero, suc, _+_, _*_, _/_, _%_}
 use mathlib.Core.List.{List, [], _∷_, _++_, flatMap}
-use lib.ListN.{length, drop}
+use lib.ListN.{length, take, drop}
 use Rattle.accounts.specs.Order.{Answer, refusal, accepted}
 use Rattle.accounts.specs.Quantified.{quantified}
 
@@ -25,6 +25,19 @@ bytesOf (suc count) number = number % byteValues ∷ bytesOf count (number / byt
 -- "eight a number"
 abbrev pub eightBytes : ℕ → List ℕ
 eightBytes = bytesOf numberBytes
+
+-- Read back: the number that some bytes are of, least significant first.
+unfoldable pub valueOf : List ℕ → ℕ
+valueOf [] = 0
+valueOf (byte ∷ bytes) = byte + byteValues * valueOf bytes
+
+-- "a table is bytes, eight a number": the numbers of a table, so many from its start on, and all that are whole
+unfoldable pub firstNumbers : ℕ → List ℕ → List ℕ
+firstNumbers zero table = []
+firstNumbers (suc count) table = valueOf (take numberBytes table) ∷ firstNumbers count (drop numberBytes table)
+
+abbrev pub numbersOf : List ℕ → List ℕ
+numbersOf table = firstNumbers (wholeNumbers table) table
 
 -- The answer to a file, with these tables.
 abbrev pub answerTo : (file plants segments : List ℕ) → Answer

@@ -3,7 +3,7 @@ use Prim.Native.Nat.{ℕ, zero, suc, _+_, _-_, _*_, _≤_, _<_}
 use mathlib.Core.Path.{_≡_, refl, sym, ap, _∙_}
 use mathlib.Core.Bool.{cond}
 use mathlib.Core.List.{List, [], _∷_, _++_, map}
-use native.Mathlib.Nat.{mul-le-mul, div-mul-le-self}
+use native.Mathlib.Nat.{mul-le-mul}
 use native.Mathlib.Decide.{decLe, ℕ-discrete}
 use native.Mathlib.Numerals.{add-one}
 use native.Mathlib.Omega.{arith}
@@ -23,6 +23,8 @@ use Rattle.records.specs.Within.{Each, LineWithin}
 use Rattle.records.proofs.Within.{each-at}
 use Rattle.accounts.specs.Emissions.{mostGrams, grams, ownedBy, gramsOf, gramsInKg, inKg, emission}
 use Rattle.accounts.specs.Order.{Answer, refusal, Test, tested, lineTests}
+use Rattle.accounts.proofs.Credits.{up-most}
+use Rattle.accounts.proofs.OwnersLines.{grams-of-both}
 use Rattle.period.specs.Inside.{ownerPlace, FewGrams, AddedUp}
 
 -- the places for plants and for segments
@@ -81,8 +83,7 @@ grams-after :
     (ownerKind owner : ℕ) (lines : List Line) (line : Line) →
     gramsOf ownerKind owner (lines ++ (line ∷ [])) ≡ gramsOf ownerKind owner lines + cond (ownedBy ownerKind owner line) (grams line) 0
 unfolding gramsOf
-grams-after ownerKind owner [] line = omega arith
-grams-after ownerKind owner (first ∷ lines) line = omega (arith, grams-after ownerKind owner lines line)
+grams-after ownerKind owner lines line = omega (arith, grams-of-both ownerKind owner lines (line ∷ []))
 
 -- totals before any line
 none : (count o : ℕ) → _≡_ {A = ℕ} (getD (replicate count 0) o 0) 0
@@ -92,7 +93,7 @@ none (suc count) (suc o) = none count o
 
 -- a total that does not pass the limit is no more kg than a number may be
 few-kg : (total : ℕ) → total ≤ mostGrams → inKg total ≤ largest
-few-kg total few = omega (arith, div-mul-le-self (total + (gramsInKg - 1)) gramsInKg)
+few-kg total few = up-most gramsInKg total largest (omega arith)
 
 -- ---- the loop: so many lines are added up, owner by owner, and passed their tests
 pub record Adding (lines : List Line) (totals : List ℕ) (l : ℕ) : Type 0 where
