@@ -14,14 +14,15 @@ use Rattle.number.specs.Groups.{largest}
 use Rattle.records.specs.declared.line.Line.{Line}
 use Rattle.records.specs.Fields.{Read, read, refused}
 use Rattle.records.specs.Periods.{Period, periodFile}
+use Rattle.records.specs.Held.{recordsOf}
 use Rattle.records.specs.Within.{Within}
 use Rattle.records.proofs.Within.{read-within}
 use Rattle.accounts.specs.Emissions.{mostGrams, grams, ownedBy, gramsOf}
 use Rattle.accounts.specs.Accounts.{Account, account}
 use Rattle.accounts.specs.Rows.{plantRows, segmentRows}
-use Rattle.accounts.specs.Order.{accepted, Test, NoneFails, passed, lineTests, segmentTests, plantNumbers, segmentNumbers, tableTests}
+use Rattle.accounts.specs.Order.{accepted, Test, NoneFails, holds, lineTests, segmentTests, plantNumbers, segmentNumbers, tableTests}
 use Rattle.accounts.specs.Quantified.{started, walk, accountsOf, stores, rows, judged, afterReading, quantified}
-use Rattle.accounts.specs.Accepted.{Accepted, heldBy, held}
+use Rattle.accounts.specs.Accepted.{Accepted, held}
 use Rattle.accounts.specs.Shares.{noTurn, accountAt}
 use Rattle.accounts.proofs.Testing.{refused-not-accepted, none-answers, none-fails, none-of-both}
 use Rattle.accounts.proofs.Walks.{getD-map, turns-length}
@@ -44,7 +45,7 @@ unfolding gramsOf lineTests
 grams-each ownerKind owner lines done [] is none few =
     let behind : gramsOf ownerKind owner (drop done lines) ≡ 0 = ap (gramsOf ownerKind owner) is in
     omega (arith, grams-split ownerKind owner lines done)
-grams-each ownerKind owner lines done (line ∷ left) is (passed test more) few =
+grams-each ownerKind owner lines done (line ∷ left) is (holds test more) few =
     grams-each ownerKind owner lines (suc done) left left-is more (by-owner (ownedBy ownerKind owner line) refl)
   where
     left-is : drop (suc done) lines ≡ left
@@ -84,12 +85,12 @@ sound-each :
     (index : ℕ) (none : Account) → index < length accounts → Sound (getD accounts index none)
 unfolding segmentTests
 sound-each [] passing index none below = absurd (omega (arith, below))
-sound-each (a ∷ accounts) (passed i (passed o (passed e more))) zero none below = record {
+sound-each (a ∷ accounts) (holds i (holds o (holds e more))) zero none below = record {
   inflow = ltb-false largest (a .inflow) i;
   outflow = ltb-false (a .inflow) (a .outflow) o;
   emission = charged-somewhere (a .emission) (a .inflow) e;
 }
-sound-each (a ∷ accounts) (passed i (passed o (passed e more))) (suc index) none below =
+sound-each (a ∷ accounts) (holds i (holds o (holds e more))) (suc index) none below =
     sound-each accounts more index none (omega (arith, below))
 
 -- ---- the whole period
@@ -162,7 +163,7 @@ module _
   judged-room = by-tests (none-of-both of-segments of-tables none-behind .1)
     where
       by-tests : NoneFails of-tables → (plantNumbers * length (period .plants) ≤ plantTable) × (segmentNumbers * length (period .segments) ≤ segmentTable)
-      by-tests (passed p (passed s rest)) =
+      by-tests (holds p (holds s rest)) =
           (ltb-false plantTable (plantNumbers * length (period .plants)) p, ltb-false segmentTable (segmentNumbers * length (period .segments)) s)
 
 -- ---- a file that is accepted
@@ -173,7 +174,7 @@ accepted-means {file} {plants} {segments} given = by-reading (periodFile file) r
   where
     by-reading :
         (outcome : Read Period) → periodFile file ≡ outcome →
-        afterReading outcome (given .plantTable) (given .segmentTable) ≡ accepted plants segments → Means (heldBy outcome) plants segments
+        afterReading outcome (given .plantTable) (given .segmentTable) ≡ accepted plants segments → Means (recordsOf outcome) plants segments
     by-reading (refused number place) r e = absurd (refused-not-accepted e)
     by-reading (read period place rest) r e =
         judged-means period (given .plantTable) (given .segmentTable) plants segments e (read-within file period place rest r)
@@ -187,6 +188,6 @@ accepted-lengths {file} {plants} {segments} given = by-reading (periodFile file)
   where
     by-reading :
         (outcome : Read Period) → afterReading outcome (given .plantTable) (given .segmentTable) ≡ accepted plants segments →
-        (plantNumbers * length (heldBy outcome .plants) ≤ given .plantTable) × (segmentNumbers * length (heldBy outcome .segments) ≤ given .segmentTable)
+        (plantNumbers * length (recordsOf outcome .plants) ≤ given .plantTable) × (segmentNumbers * length (recordsOf outcome .segments) ≤ given .segmentTable)
     by-reading (refused number place) e = absurd (refused-not-accepted e)
     by-reading (read period place rest) e = judged-room period (given .plantTable) (given .segmentTable) plants segments e

@@ -20,7 +20,7 @@ use Rattle.accounts.specs.Routes.{Leg, routeFrom}
 use Rattle.accounts.proofs.OwnersLines.{emission-of-own}
 use Rattle.accounts.proofs.Credits.{sum-most, credited-most, credits-sum}
 use Rattle.accounts.proofs.Charges.{charge-nothing}
-use Rattle.accounts.proofs.Walks.{getD-map, passed-at}
+use Rattle.accounts.proofs.Walks.{getD-map, passed-at, not-passed-at}
 use Rattle.accounts.proofs.Accepting.{Sound}
 
 -- ---- numbers
@@ -58,7 +58,7 @@ module _ (lines : List Line) (p : ℕ) (turn : Turn) (alone : Undivided lines p 
   module _ (elsewhere : passes (turn .own) standing ≡ false) where
     -- it stays as it is
     stays : getD (afterwards turn) p nowhere ≡ standing
-    stays = rw (passed-at (turn .own) (turn .segment) (turn .standings) p (alone .plant), elsewhere)
+    stays = not-passed-at (turn .own) (turn .segment) (turn .standings) p (alone .plant) elsewhere
 
     -- and nothing is charged to it
     charged-nothing : chargeTo p (account lines turn) ≡ 0

@@ -23,11 +23,11 @@ use Rattle.accounts.proofs.RowsAt.{plant-row-at, segment-row-at, column
 use Rattle.accounts.proofs.Turned.{after, after-all, after-length, turn-standings, turned, outflow-most}
 
 -- the amounts of all plants, wherever they stand
-abbrev amountOf : Standing → ℕ
-amountOf standing = standing .amount
+abbrev amountHeld : Standing → ℕ
+amountHeld standing = standing .amount
 
-abbrev amountsOf : List Standing → List ℕ
-amountsOf = map amountOf
+abbrev amountsHeld : List Standing → List ℕ
+amountsHeld = map amountHeld
 
 -- ---- one turn
 module _ (own next : ℕ) where
@@ -47,7 +47,7 @@ module _ (own next : ℕ) where
   all-sent :
       (standings : List Standing) (shares : List ℕ) → length shares ≡ length standings →
       ((p : ℕ) → getD shares p 0 ≤ getD (amounts own standings) p 0) →
-      sum (amountsOf (zipWith (sentOn own next) standings shares)) + sum (amounts own standings) ≡ sum (amountsOf standings) + sum shares
+      sum (amountsHeld (zipWith (sentOn own next) standings shares)) + sum (amounts own standings) ≡ sum (amountsHeld standings) + sum shares
   unfolding sum zipWith
   all-sent [] [] long less = refl
   all-sent [] (share ∷ shares) long less = absurd (omega (arith, long))
@@ -60,7 +60,7 @@ module _ (own next : ℕ) where
 -- all plants together give the inflow for the outflow
 one-turn :
     (turn : Turn) → turn .segment .outflow ≤ sum (entering turn) →
-    sum (amountsOf (afterwards turn)) + sum (entering turn) ≡ sum (amountsOf (turn .standings)) + turn .segment .outflow
+    sum (amountsHeld (afterwards turn)) + sum (entering turn) ≡ sum (amountsHeld (turn .standings)) + turn .segment .outflow
 unfolding passed
 one-turn turn less =
     let shares = credits (turn .segment .outflow) (entering turn) in
@@ -80,13 +80,13 @@ module _ {period : Period} {plants segments : List ℕ} (means : Means period pl
   -- the exports are what is still held after so many turns, and what was lost in them
   lost-so-far :
       (s : ℕ) → s ≤ length (period .segments) →
-      sum (amountsOf (started period)) ≡ sum (amountsOf (after period s)) + columnSum segmentNumbers lossColumn s segments
+      sum (amountsHeld (started period)) ≡ sum (amountsHeld (after period s)) + columnSum segmentNumbers lossColumn s segments
   unfolding arrived columnSum
   lost-so-far zero fits = omega arith
   lost-so-far (suc s) fits =
       let below : s < length (period .segments) = omega (arith, fits) in
-      let now = ap (λ (standings : List Standing). sum (amountsOf standings)) (turn-standings period s below) in
-      let then = ap (λ (standings : List Standing). sum (amountsOf standings)) (turned period s below) in
+      let now = ap (λ (standings : List Standing). sum (amountsHeld standings)) (turn-standings period s below) in
+      let then = ap (λ (standings : List Standing). sum (amountsHeld standings)) (turned period s below) in
       let less = outflow-most means s below in
       omega (arith, lost-so-far s (omega (arith, fits)), one-turn (turnAt period s) less, less, now, then, loss-told s below)
 
@@ -94,21 +94,21 @@ module _ {period : Period} {plants segments : List ℕ} (means : Means period pl
   column-held :
       (column : ℕ) (standings : List Standing) → length standings ≡ length (period .plants) →
       ((p : ℕ) → p < length (period .plants) → inRow plantNumbers p column plants ≡ getD standings p nowhere .amount) →
-      columnSum plantNumbers column (length (period .plants)) plants ≡ sum (amountsOf standings)
+      columnSum plantNumbers column (length (period .plants)) plants ≡ sum (amountsHeld standings)
   column-held column standings long same =
-      let counted : length (amountsOf standings) ≡ length (period .plants) = length-map standings amountOf ∙ long in
-      column-is plantNumbers column (length (period .plants)) plants (amountsOf standings) (omega (arith, counted)) (λ p plant.
-      same p plant ∙ sym (getD-map amountOf standings p nowhere 0 (rw long plant)))
-      ∙ ap sum (take-all (length (period .plants)) (amountsOf standings) (omega (arith, counted)))
+      let counted : length (amountsHeld standings) ≡ length (period .plants) = length-map standings amountHeld ∙ long in
+      column-is plantNumbers column (length (period .plants)) plants (amountsHeld standings) (omega (arith, counted)) (λ p plant.
+      same p plant ∙ sym (getD-map amountHeld standings p nowhere 0 (rw long plant)))
+      ∙ ap sum (take-all (length (period .plants)) (amountsHeld standings) (omega (arith, counted)))
 
   -- they start with what they export
-  exported-told : columnSum plantNumbers exportedColumn (length (period .plants)) plants ≡ sum (amountsOf (started period))
+  exported-told : columnSum plantNumbers exportedColumn (length (period .plants)) plants ≡ sum (amountsHeld (started period))
   exported-told = column-held exportedColumn (started period) (length-map (period .plants) starting) (λ p plant.
       ap (λ (row : List ℕ). getD row exportedColumn 0) (plant-row-at means p plant)
-      ∙ sym (ap amountOf (getD-map starting (period .plants) p noPlant nowhere plant)))
+      ∙ sym (ap amountHeld (getD-map starting (period .plants) p noPlant nowhere plant)))
 
   -- and end with what they have stored
-  stored-told : columnSum plantNumbers storedColumn (length (period .plants)) plants ≡ sum (amountsOf (stores period))
+  stored-told : columnSum plantNumbers storedColumn (length (period .plants)) plants ≡ sum (amountsHeld (stores period))
   stored-told =
       let counted = ap length (sym (after-all period)) ∙ after-length period (length (period .segments)) in
       column-held storedColumn (stores period) counted (λ p plant. ap (λ (row : List ℕ). getD row storedColumn 0) (plant-row-at means p plant))

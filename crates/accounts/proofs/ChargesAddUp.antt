@@ -16,21 +16,12 @@ use Rattle.accounts.specs.Accounts.{Account, account, charge}
 use Rattle.accounts.specs.Order.{segmentNumbers}
 use Rattle.accounts.specs.Accepted.{Accepted, held}
 use Rattle.accounts.specs.Tables.{inRow, inflowColumn, emissionColumn, setColumn}
-use Rattle.accounts.specs.Shares.{turnAt, entering, charged}
+use Rattle.accounts.specs.Shares.{turnAt, entering, charged, AddUp}
 use Rattle.accounts.proofs.Bits.{digit}
 use Rattle.accounts.proofs.Sets.{passing, plants-on-it}
 use Rattle.accounts.proofs.Charges.{charge-without-inflow, charge-nothing, charge-least, charge-most}
 use Rattle.accounts.proofs.Accepting.{Sound, accepted-means}
 use Rattle.accounts.proofs.RowsAt.{segment-row-at}
-
--- What a segment's charges add up to, beside its emission, its inflow and the number of plants on it.
-pub record AddUp (emission inflow plants charges : ℕ) : Type 0 where
-  -- they come to no less than E
-  pub no-less : emission ≤ charges
-  -- "by fewer kg than there are plants"
-  pub fewer : 0 < inflow → charges < emission + plants
-  -- "If A is 0, E must be 0 and charges are 0."
-  pub none : inflow ≡ 0 → (emission ≡ 0) × (charges ≡ 0)
 
 -- ---- what some plants are charged at a segment
 module _ (a : Account) where

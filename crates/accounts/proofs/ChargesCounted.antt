@@ -1,5 +1,6 @@
--- Every charge is counted once: the plants' associated emissions add up to the own emissions of all plants and the charges of all segments.
-use Prim.Native.Nat.{ℕ, zero, suc, _+_, _≤_}
+-- A plant's associated emissions are its own and what each segment charges it. Every charge is counted once: together they add up to the own
+-- emissions of all plants and the charges of all segments.
+use Prim.Native.Nat.{ℕ, zero, suc, _+_, _≤_, _<_}
 use mathlib.Core.Path.{_≡_, refl, sym, ap, ap₂, _∙_}
 use mathlib.Core.List.{List, [], _∷_, map}
 use native.Mathlib.Omega.{arith}
@@ -15,7 +16,7 @@ use Rattle.accounts.specs.Accounts.{account, charge, chargeTo, charges}
 use Rattle.accounts.specs.Order.{plantNumbers}
 use Rattle.accounts.specs.Quantified.{started, walk, accountsOf}
 use Rattle.accounts.specs.Accepted.{Accepted, held}
-use Rattle.accounts.specs.Tables.{columnSum, associatedColumn}
+use Rattle.accounts.specs.Tables.{inRow, columnSum, associatedColumn}
 use Rattle.accounts.specs.Shares.{entering, charged, ownEmissions}
 use Rattle.accounts.proofs.Walks.{passed-length}
 use Rattle.accounts.proofs.Charges.{charge-nothing}
@@ -43,6 +44,14 @@ module _ (lines : List Line) where
       ∙ List·getD-map (charge (account lines turn)) (entering turn) index 0
 
   -- ---- at all segments
+  -- what one plant is charged
+  charges-at :
+      (index : ℕ) (walked : List Turn) →
+      charges index (map (account lines) walked) ≡ sum (map (λ (turn : Turn). getD (charged lines turn) index 0) walked)
+  unfolding sum
+  charges-at index [] = refl
+  charges-at index (turn ∷ walked) = omega (arith, charged-at index turn, charges-at index walked)
+
   -- one plant more adds all its charges
   one-plant-more :
       (count : ℕ) (walked : List Turn) →
@@ -70,7 +79,18 @@ module _ (lines : List Line) where
       (ap sum (take-all count (charged lines (record { own = own; segment = segment; standings = standings })) (simp length-map few)))
       (all-plants count (suc own) rest (passed own segment standings) (rw (passed-length own segment standings) few))
 
--- the column of so many plants
+-- ---- one plant's row
+pub charges-of-plant :
+    {file plants segments : List ℕ} → Accepted file plants segments → (index : ℕ) → index < length (held file .plants) →
+    inRow plantNumbers index associatedColumn plants
+    ≡ emission plantOwner (suc index) (held file .lines)
+    + sum (map (λ (turn : Turn). getD (charged (held file .lines) turn) index 0) (walk (held file)))
+unfolding accountsOf
+charges-of-plant {file} accepted index below =
+    ap (λ (row : List ℕ). getD row associatedColumn 0) (plant-row-at (accepted-means accepted) index below)
+    ∙ ap (λ (all : ℕ). emission plantOwner (suc index) (held file .lines) + all) (charges-at (held file .lines) index (walk (held file)))
+
+-- ---- the column of so many plants
 column-up-to :
     {period : Period} {plants segments : List ℕ} → Means period plants segments → (count : ℕ) → count ≤ length (period .plants) →
     columnSum plantNumbers associatedColumn count plants
@@ -87,6 +107,7 @@ column-up-to {period} means (suc count) few =
       one-plant-more lines count (walk period),
     ))
 
+-- of all plants
 pub charges-counted :
     {file plants segments : List ℕ} → Accepted file plants segments →
     columnSum plantNumbers associatedColumn (length (held file .plants)) plants

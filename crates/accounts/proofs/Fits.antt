@@ -94,9 +94,9 @@ module _ {period : Period} {plants segments : List ℕ} (means : Means period pl
       up-most gramsInKg (gramsOf ownerKind owner (period .lines)) largest (omega (arith, means .grams ownerKind owner))
 
   -- nor is any charge, as no plant brings more than the inflow
-  charge-most : (index : ℕ) (turn : Turn) → chargeTo index (account (period .lines) turn) ≤ largest
+  charge-largest : (index : ℕ) (turn : Turn) → chargeTo index (account (period .lines) turn) ≤ largest
   unfolding account
-  charge-most index turn =
+  charge-largest index turn =
       le-trans
       (charge-within (account (period .lines) turn) (getD (entering turn) index 0) (part-of-sum (entering turn) index))
       (emission-most segmentOwner (turn .own))
@@ -104,7 +104,7 @@ module _ {period : Period} {plants segments : List ℕ} (means : Means period pl
   charges-most : (index : ℕ) (walked : List Turn) → charges index (map (account (period .lines)) walked) ≤ length walked * largest
   unfolding sum
   charges-most index [] = omega arith
-  charges-most index (turn ∷ walked) = omega (arith, charge-most index turn, charges-most index walked)
+  charges-most index (turn ∷ walked) = omega (arith, charge-largest index turn, charges-most index walked)
 
   -- so what is associated with a plant is not over so many times as much
   associated-most : (index : ℕ) → associated (period .lines) (accountsOf period) index ≤ largest + mostSegments * largest

@@ -29,7 +29,8 @@ pub mod LargerLine
 pub mod OthersFractionAndLines
 pub mod ChargesAddUp
 pub mod ChargesCounted
--- The numbers of both tables are 64-bit numbers.
+-- No owner's grams pass the limit, and the numbers of both tables are 64-bit numbers.
+pub mod GramsWithin
 pub mod Fits
 -- A file is refused exactly for the first of 01's reasons that holds, and accepted exactly where none does.
 mod Places

@@ -10,12 +10,12 @@ use Rattle.accounts.specs.Quantified.{accountsOf, quantified}
 use Rattle.accounts.specs.Reasons.{plantCount, segmentCount, lineCount, periodAt, headerTests, plantTests, segmentFieldTests, lineFieldTests, endTest, testsOfEach, readingTests, allTests}
 use Rattle.accounts.proofs.Order.{refused-exactly}
 
--- each of the tests has another number
+-- no test has the number 0
 unfoldable Numbered : List Test → Type 0
 Numbered [] = Unit {0}
 Numbered (test ∷ tests) = (0 < test .number) × Numbered tests
 
--- so the first that fails does
+-- so nor has the first that fails
 first-numbered : {tests : List Test} {number place : ℕ} → FirstFails tests number place → Numbered tests → 0 < number
 unfolding Numbered
 first-numbered (here h) each = each .0

@@ -9,15 +9,17 @@ use native.Mathlib.Decide.{decLe}
 use native.Mathlib.Omega.{arith}
 use lib.ListN.{length}
 use borrow.Author.Tests.{lt-ltb, le-ltb}
-use Rattle.records.specs.Run.{Run, over}
+use Rattle.records.specs.Run.{over}
 use Rattle.records.specs.Fields.{Read, read, refused}
 use Rattle.records.specs.Periods.{Period, period, ended, periodFile}
+use Rattle.records.specs.Held.{recordsOf}
 use Rattle.records.proofs.Fields.{comes}
 use Rattle.records.proofs.Whole.{more-left, none-left}
 use Rattle.accounts.specs.Order.{Answer, refusal, accepted, Test, tested, FirstFails, NoneFails, lineTests, segmentTests, tableTests}
 use Rattle.accounts.specs.Quantified.{accountsOf, rows, judged, afterReading, quantified}
+use Rattle.accounts.specs.Accepted.{Accepted, held}
 use Rattle.accounts.specs.Reasons.{startOf, plantCount, segmentCount, numberCount, listed, periodAt, readingTests, endTest, allTests}
-use Rattle.accounts.proofs.Testing.{first-answers, first-fails, none-answers, none-fails}
+use Rattle.accounts.proofs.Testing.{refused-not-accepted, first-answers, first-fails, none-answers, none-fails}
 use Rattle.accounts.proofs.Refused.{reading-refuses}
 use Rattle.accounts.proofs.Places.{Found, passes, fails, period-found}
 
@@ -50,13 +52,15 @@ tried file left = by-found (period-found file left)
             one-fails (ap ended (comes file come) ∙ more-left (periodAt file) (numberCount file) file after (omega arith))
             (λ answer. says answer ∙ rw (lt-ltb after (length file) (omega arith)))
 
--- what a file that was read holds stands at its places
-pub held-is : (file : List ℕ) (held : Period) (place : ℕ) (rest : Run) → periodFile file ≡ read held place rest → held ≡ periodAt file
-held-is file held place rest e = by-reading (tried file [])
+-- what an accepted file holds stands at its numbers' places
+pub held-is : {file plants segments : List ℕ} → Accepted file plants segments → held file ≡ periodAt file
+unfolding held
+held-is {file} given = by-reading (tried file [])
   where
-    by-reading : Tried file [] → held ≡ periodAt file
-    by-reading (all-pass is says) = cc
-    by-reading (one-fails is says) = let clash : _≡_ {A = ℕ} 0 1 = cc in absurd (omega arith)
+    by-reading : Tried file [] → recordsOf (periodFile file) ≡ periodAt file
+    by-reading (all-pass is says) = ap recordsOf is
+    by-reading (one-fails {number} {place} is says) =
+        absurd (refused-not-accepted (sym (reading-refuses file (given .plantTable) (given .segmentTable) number place is) ∙ given .answer))
 
 -- ---- the answer to a file
 -- there are as many records as the header says

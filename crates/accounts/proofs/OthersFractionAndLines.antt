@@ -1,18 +1,14 @@
 -- "On shared routes too, another plant's origin fraction and own lines never change [a plant's results]."
--- The CO2 is shared as it was exported, whatever its origin, and a segment is charged for its own lines. So all that another plant's
--- fraction and lines can change is that plant's own row: every other plant's row stays the same, and so does every segment's.
+-- The CO2 is shared as it was exported, whatever its origin, and a segment is charged for its own lines. So all that other plants'
+-- fractions and lines can change is their own rows: the row of the plant that stays the same does not change, and no segment's does.
 use Prim.Native.Nat.{ℕ, suc, _<_}
 use mathlib.Core.Path.{_≡_, refl, sym, ap, _∙_}
-use mathlib.Core.Bool.{Bool, true, false, not}
+use mathlib.Core.Bool.{Bool, true, false, _||_}
 use mathlib.Core.List.{List, map, map-congr-left}
-use mathlib.Core.Logic.{_≢_}
-use native.Mathlib.Omega.{arith}
 use lib.Dec.{eqb}
-use lib.ListN.{length, getD}
-use borrow.Author.Tests.{eqb-true, eqb-false}
-use Rattle.records.specs.declared.plant.Plant.{Plant}
+use lib.ListN.{length}
+use borrow.Author.Tests.{eq-eqb}
 use Rattle.records.specs.declared.line.Line.{Line}
-use Rattle.records.specs.Plants.{noPlant}
 use Rattle.records.specs.Classes.{plantOwner, segmentOwner}
 use Rattle.records.specs.Periods.{Period}
 use Rattle.accounts.specs.Emissions.{ownedBy, emission}
@@ -23,79 +19,64 @@ use Rattle.accounts.specs.Order.{plantNumbers}
 use Rattle.accounts.specs.Quantified.{started, walk, accountsOf, stores}
 use Rattle.accounts.specs.Accepted.{Accepted, held}
 use Rattle.accounts.specs.Tables.{rowAt}
-use Rattle.accounts.specs.Changes.{OnlyItsOwn}
+use Rattle.accounts.specs.Changes.{notOthers, OthersOwn}
 use Rattle.accounts.proofs.AsExported.{same-starts}
-use Rattle.accounts.proofs.OwnersLines.{same-emission, others-kept}
+use Rattle.accounts.proofs.OwnersLines.{owner-is, same-emission}
 use Rattle.accounts.proofs.Accepting.{accepted-means}
 use Rattle.accounts.proofs.RowsAt.{plant-row-at}
 
-module _ {other : ℕ} {one two : Period} (change : OnlyItsOwn other one two) where
+-- ---- where all other plants' lines are left out, those of any segment and the plant's own are kept
+segment-kept : (index own : ℕ) (line : Line) → ownedBy segmentOwner own line ≡ true → notOthers index line ≡ true
+segment-kept index own line its = rw (eq-eqb (line .«owner_kind») segmentOwner (owner-is segmentOwner own line its .0)) refl
+
+own-kept : (index : ℕ) (line : Line) → ownedBy plantOwner (suc index) line ≡ true → notOthers index line ≡ true
+own-kept index line its = rw its (by-test (eqb (line .«owner_kind») segmentOwner))
+  where
+    by-test : (t : Bool) → t || true ≡ true
+    by-test true = refl
+    by-test false = refl
+
+module _ {index : ℕ} {one two : Period} (change : OthersOwn index one two) where
   -- ---- the walk: every plant starts alike
-  -- a field that is the same for that plant is the same for all
-  field-unchanged :
-      (field : Plant → ℕ) → field (getD (two .plants) other noPlant) ≡ field (getD (one .plants) other noPlant) →
-      (index : ℕ) → field (getD (two .plants) index noPlant) ≡ field (getD (one .plants) index noPlant)
-  field-unchanged field same index = by-test (eqb index other) refl
-    where
-      by-test : (t : Bool) → eqb index other ≡ t → field (getD (two .plants) index noPlant) ≡ field (getD (one .plants) index noPlant)
-      by-test true e = rw (eqb-true index other e) same
-      by-test false e = ap field (change .plants index (eqb-false index other e))
-
-  -- so exports and first segments are
   starts-unchanged : started two ≡ started one
-  starts-unchanged =
-      same-starts
-      (one .plants) (two .plants) (change .count)
-      (field-unchanged (λ (plant : Plant). plant .exported) (change .exported))
-      (field-unchanged (λ (plant : Plant). plant .first) (change .first))
+  starts-unchanged = same-starts (one .plants) (two .plants) (change .count) (change .exported) (change .first)
 
-  -- and the amounts, all the way
+  -- and so do the amounts go, all the way
   walk-unchanged : walk two ≡ walk one
   walk-unchanged = cc (change .segments, starts-unchanged)
 
   stores-unchanged : stores two ≡ stores one
   stores-unchanged = cc (change .segments, starts-unchanged)
 
-  -- ---- the emissions: any owner but the plant has the same
-  emission-unchanged :
-      (ownerKind owner : ℕ) → (ownerKind ≡ plantOwner → owner ≡ suc other → ⊥) →
-      emission ownerKind owner (two .lines) ≡ emission ownerKind owner (one .lines)
-  emission-unchanged ownerKind owner apart =
-      same-emission
-      ownerKind owner (λ (line : Line). not (ownedBy plantOwner (suc other) line)) (others-kept ownerKind owner plantOwner (suc other) apart)
-      (one .lines) (two .lines) (change .lines)
+  -- ---- the emissions: the plant has the same
+  own-unchanged : emission plantOwner (suc index) (two .lines) ≡ emission plantOwner (suc index) (one .lines)
+  own-unchanged = same-emission plantOwner (suc index) (notOthers index) (own-kept index) (one .lines) (two .lines) (change .lines)
 
-  -- so every segment has the same account
+  -- so has every segment, and with it the same account
   account-unchanged : (turn : Turn) → account (two .lines) turn ≡ account (one .lines) turn
   unfolding account
-  account-unchanged turn = rw (emission-unchanged segmentOwner (turn .own) (λ kind number. omega arith)) refl
+  account-unchanged turn =
+      rw (same-emission segmentOwner (turn .own) (notOthers index) (segment-kept index (turn .own)) (one .lines) (two .lines) (change .lines)) refl
 
   accounts-unchanged : accountsOf two ≡ accountsOf one
   unfolding accountsOf
   accounts-unchanged = ap (map (account (two .lines))) walk-unchanged ∙ map-congr-left {l = walk one} (λ turn member. account-unchanged turn)
 
--- no other plant's row changes
+-- the plant's row does not change
 pub others-fraction-and-lines :
     {file₁ plants₁ segments₁ file₂ plants₂ segments₂ : List ℕ} → Accepted file₁ plants₁ segments₁ → Accepted file₂ plants₂ segments₂ →
-    (other : ℕ) → OnlyItsOwn other (held file₁) (held file₂) → (index : ℕ) → index < length (held file₁ .plants) → index ≢ other →
+    (index : ℕ) → index < length (held file₁ .plants) → OthersOwn index (held file₁) (held file₂) →
     rowAt plantNumbers index plants₂ ≡ rowAt plantNumbers index plants₁
-others-fraction-and-lines accepted₁ accepted₂ other change index below apart =
+others-fraction-and-lines accepted₁ accepted₂ index below change =
     let row₁ = plant-row-at (accepted-means accepted₁) index below in
     let row₂ = plant-row-at (accepted-means accepted₂) index (rw (change .count) below) in
-    cc (
-      row₁,
-      row₂,
-      change .plants index apart,
-      stores-unchanged change,
-      accounts-unchanged change,
-      emission-unchanged change plantOwner (suc index) (λ kind number. apart (omega (arith, number))),
-    )
+    cc (row₁, row₂, change .plant, stores-unchanged change, accounts-unchanged change, own-unchanged change)
 
 -- nor does any segment's
 pub no-segment-changes :
     {file₁ plants₁ segments₁ file₂ plants₂ segments₂ : List ℕ} → Accepted file₁ plants₁ segments₁ → Accepted file₂ plants₂ segments₂ →
-    (other : ℕ) → OnlyItsOwn other (held file₁) (held file₂) → segments₂ ≡ segments₁
-no-segment-changes accepted₁ accepted₂ other change =
+    (index : ℕ) → OthersOwn index (held file₁) (held file₂) → segments₂ ≡ segments₁
+no-segment-changes accepted₁ accepted₂ index change =
     let rows₁ = accepted-means accepted₁ .segments-are in
     let rows₂ = accepted-means accepted₂ .segments-are in
     rows₂ ∙ ap segmentRows (accounts-unchanged change) ∙ sym rows₁

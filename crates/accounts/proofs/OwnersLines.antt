@@ -1,7 +1,7 @@
 -- An owner's emission comes from its own lines alone: lines of others may be left out.
 use Prim.Native.Nat.{ℕ, _+_}
 use mathlib.Core.Path.{_≡_, refl, sym, ap, _∙_}
-use mathlib.Core.Bool.{Bool, true, false, cond, not, _&&_, true≢false}
+use mathlib.Core.Bool.{Bool, true, false, cond, _&&_, true≢false}
 use mathlib.Core.List.{List, [], _∷_, _++_}
 use native.Mathlib.Omega.{arith}
 use lib.Dec.{eqb}
@@ -58,16 +58,3 @@ module _ (ownerKind owner : ℕ) where
   -- ---- the owner's lines alone are enough
   pub emission-of-own : (lines : List Line) → emission ownerKind owner (chosen (ownedBy ownerKind owner) lines) ≡ emission ownerKind owner lines
   emission-of-own = emission-of-chosen (ownedBy ownerKind owner) (λ line its. its)
-
--- ---- a choice that leaves out the lines of one owner keeps those of any other
-pub others-kept :
-    (ownerKind owner leftKind left : ℕ) → (ownerKind ≡ leftKind → owner ≡ left → ⊥) →
-    (line : Line) → ownedBy ownerKind owner line ≡ true → not (ownedBy leftKind left line) ≡ true
-others-kept ownerKind owner leftKind left apart line its = by-test (ownedBy leftKind left line) refl
-  where
-    by-test : (t : Bool) → ownedBy leftKind left line ≡ t → not t ≡ true
-    by-test true e =
-        let this = owner-is ownerKind owner line its in
-        let that = owner-is leftKind left line e in
-        absurd (apart (sym (this .0) ∙ that .0) (sym (this .1) ∙ that .1))
-    by-test false e = refl

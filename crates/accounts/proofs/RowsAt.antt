@@ -89,7 +89,7 @@ segment-rows-long (a ∷ accounts) = omega (arith, segment-rows-long accounts)
 
 -- ---- of an accepted period
 module _ {period : Period} {plants segments : List ℕ} (means : Means period plants segments) where
-  -- what a plant has stored when all segments are worked
+  -- a plant's row, by its index
   pub plant-row-at :
       (index : ℕ) → index < length (period .plants) →
       rowAt plantNumbers index plants
@@ -101,14 +101,17 @@ module _ {period : Period} {plants segments : List ℕ} (means : Means period pl
       (stores-length period)
       index index (omega arith) below
 
+  -- the plants' rows have so many numbers together
   pub plants-long : length plants ≡ plantNumbers * length (period .plants)
   plants-long =
       ap length (means .plants-are) ∙ plant-rows-long (period .lines) (accountsOf period) 0 (period .plants) (stores period) (stores-length period)
 
+  -- and so many the segments'
   pub segments-long : length segments ≡ segmentNumbers * length (period .segments)
   segments-long =
       ap length (means .segments-are) ∙ segment-rows-long (accountsOf period) ∙ ap (λ (n : ℕ). segmentNumbers * n) (accounts-length period)
 
+  -- a segment's row, by its index
   pub segment-row-at :
       (index : ℕ) → index < length (period .segments) →
       let a = accountAt period index in rowAt segmentNumbers index segments ≡ segmentRow (a .inflow) (a .outflow) (a .emission) (a .plants)
@@ -119,7 +122,8 @@ module _ {period : Period} {plants segments : List ℕ} (means : Means period pl
       (λ (a : Account). segmentRow (a .inflow) (a .outflow) (a .emission) (a .plants))
       (account-at period index (accountAt period index) below)
 
--- ---- a column that holds a list's numbers adds up to the list's sum
+-- ---- columns added up
+-- one number more at the end of a list
 pub sum-snoc : (numbers : List ℕ) (n : ℕ) → sum (numbers ++ n ∷ []) ≡ sum numbers + n
 unfolding sum
 sum-snoc [] n = omega arith
@@ -136,6 +140,7 @@ column-same numbers column (suc count) table table' same =
     (column-same numbers column count table table' (λ index below. same index (omega (arith, below))))
     (ap (λ (row : List ℕ). getD row column 0) (same count (omega arith)))
 
+-- a column that holds a list's numbers adds up to their sum
 pub column-is :
     (numbers column count : ℕ) (table values : List ℕ) → count ≤ length values →
     ((index : ℕ) → index < count → inRow numbers index column table ≡ getD values index 0) →

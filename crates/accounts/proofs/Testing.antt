@@ -3,7 +3,7 @@ use Prim.Native.Nat.{ℕ}
 use mathlib.Core.Path.{_≡_, refl, sym, ap}
 use mathlib.Core.Bool.{Bool, true, false, cond, true≢false}
 use mathlib.Core.List.{List, [], _∷_, _++_}
-use Rattle.accounts.specs.Order.{Answer, refusal, accepted, Test, tested, FirstFails, here, later, NoneFails, end, passed}
+use Rattle.accounts.specs.Order.{Answer, refusal, accepted, Test, tested, FirstFails, here, later, NoneFails, end, holds}
 
 -- a refusal is no acceptance
 pub refused-not-accepted : {number place : ℕ} {plants segments : List ℕ} → refusal number place ≡ accepted plants segments → ⊥
@@ -41,7 +41,7 @@ first-fails (test ∷ tests) number place plants segments e = by-test (test .fai
 pub none-answers : {tests : List Test} (answer : Answer) → NoneFails tests → tested tests answer ≡ answer
 unfolding tested
 none-answers answer end = refl
-none-answers answer (passed h more) = rw h (none-answers answer more)
+none-answers answer (holds h more) = rw h (none-answers answer more)
 
 -- and where the answer is no refusal, none fails
 pub none-fails : (tests : List Test) (answer : Answer) (plants segments : List ℕ) → tested tests answer ≡ accepted plants segments → NoneFails tests
@@ -53,9 +53,9 @@ none-fails (test ∷ tests) answer plants segments e = by-test (test .fails) ref
         (t : Bool) → test .fails ≡ t → cond t (refusal (test .number) (test .place)) (tested tests answer) ≡ accepted plants segments →
         (tested tests answer ≡ accepted plants segments → NoneFails tests) → NoneFails (test ∷ tests)
     by-test true h e again = absurd (refused-not-accepted e)
-    by-test false h e again = passed h (again e)
+    by-test false h e again = holds h (again e)
 
 -- where none of all tests fails, none of the first ones and none of those behind them does
 pub none-of-both : (tests rest : List Test) → NoneFails (tests ++ rest) → NoneFails tests × NoneFails rest
 none-of-both [] rest none = (end, none)
-none-of-both (test ∷ tests) rest (passed h more) = let both = none-of-both tests rest more in (passed h (both .0), both .1)
+none-of-both (test ∷ tests) rest (holds h more) = let both = none-of-both tests rest more in (holds h (both .0), both .1)

@@ -97,7 +97,7 @@ module _ (period : Period) where
     here : p < length (turnAt period s .standings)
     here = rw (turn-plants s below) plant
 
-    -- and among those whose amounts enter, be its own 0
+    -- and among those whose amounts enter, even where its own is 0
     pub enters : p < length (entering (turnAt period s))
     enters = rw (length-map (turnAt period s .standings) (brings (turnAt period s .own))) here
 

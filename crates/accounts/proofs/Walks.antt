@@ -1,12 +1,13 @@
 -- The walk, turn by turn: where the plants are when a segment's turn comes.
-use Prim.Native.Nat.{ℕ, zero, suc, _+_, _≤_, _<_}
+use Prim.Native.Nat.{ℕ, zero, suc, _+_, _<_}
 use mathlib.Core.Path.{_≡_, refl, ap, _∙_}
+use mathlib.Core.Bool.{false}
 use mathlib.Core.List.{List, [], _∷_, map, zipWith}
 use native.Mathlib.Omega.{arith}
-use lib.ListN.{length, length-map, take, drop, getD}
+use lib.ListN.{length, length-map, take, getD}
 use Rattle.records.specs.declared.segment.Segment.{Segment}
 use Rattle.records.specs.Segments.{noSegment}
-use Rattle.accounts.specs.Walk.{Standing, nowhere, brings, amounts, sum, credits, sentOn, passed, Turn, turns, arrived}
+use Rattle.accounts.specs.Walk.{Standing, nowhere, passes, brings, amounts, sum, credits, sentOn, passed, Turn, turns, arrived}
 use Rattle.accounts.proofs.Credits.{credits-length}
 
 -- ---- lists, by their elements
@@ -52,6 +53,12 @@ module _ (own : ℕ) (segment : Segment) (standings : List Standing) where
   passed-at p below =
       getD-zip (sentOn own (segment .next)) standings (credits (segment .outflow) entering) p nowhere 0 nowhere credited below
 
+  -- one whose route does not pass stays as it is
+  pub not-passed-at :
+      (p : ℕ) → p < length standings → passes own (getD standings p nowhere) ≡ false →
+      getD (passed own segment standings) p nowhere ≡ getD standings p nowhere
+  not-passed-at p below elsewhere = rw (passed-at p below, elsewhere) refl
+
 -- ---- the turns, one after another, from a segment's number on
 pub arrived-length : (own : ℕ) (segments : List Segment) (standings : List Standing) → length (arrived own segments standings) ≡ length standings
 unfolding arrived
@@ -74,16 +81,6 @@ arrived-on own (segment ∷ rest) standings zero here at below =
     ap (λ (n : ℕ). passed n segment standings) (omega (arith, at))
 arrived-on own (segment ∷ rest) standings (suc s) here at below =
     arrived-on (suc own) rest (passed own segment standings) s here (omega (arith, at)) (omega (arith, below))
-
--- the turns that are left after so many
-pub turns-left :
-    (own : ℕ) (segments : List Segment) (standings : List Standing) (s here : ℕ) → own + s ≡ here → s ≤ length segments →
-    drop s (turns own segments standings) ≡ turns here (drop s segments) (arrived own (take s segments) standings)
-unfolding arrived turns
-turns-left own segments standings zero here at below = ap (λ (n : ℕ). turns n segments standings) (omega (arith, at))
-turns-left own [] standings (suc s) here at below = absurd (omega (arith, below))
-turns-left own (segment ∷ rest) standings (suc s) here at below =
-    turns-left (suc own) rest (passed own segment standings) s here (omega (arith, at)) (omega (arith, below))
 
 -- the turn of a segment
 pub turn-at :

@@ -27,6 +27,7 @@ setOf own bit (standing ∷ rest) = cond (passes own standing) (2 ^ bit) 0 + set
 abbrev pub hasBit : (set index : ℕ) → Bool
 hasBit set index = eqb (set / 2 ^ index % 2) 1
 
+-- The account of a segment's turn; its emission comes from the lines.
 unfoldable pub account : List Line → Turn → Account
 account lines turn = record {
   own = turn .own;

@@ -1,13 +1,13 @@
 -- Two periods beside each other: what may differ between them.
 use Prim.Native.Nat.{ℕ, suc, _≤_}
 use mathlib.Core.Path.{_≡_}
-use mathlib.Core.Bool.{not}
+use mathlib.Core.Bool.{Bool, _||_}
 use mathlib.Core.List.{List, _∷_, _++_}
-use mathlib.Core.Logic.{_≢_}
+use lib.Dec.{eqb}
 use lib.ListN.{length, getD}
 use Rattle.records.specs.declared.line.Line.{Line}
 use Rattle.records.specs.Plants.{noPlant}
-use Rattle.records.specs.Classes.{plantOwner}
+use Rattle.records.specs.Classes.{plantOwner, segmentOwner}
 use Rattle.records.specs.Lines.{lineOf}
 use Rattle.records.specs.Periods.{Period}
 use Rattle.accounts.specs.Emissions.{ownedBy, chosen}
@@ -25,16 +25,18 @@ pub record OneLineLarger (smaller larger : Period) : Type 0 where
   pub lines : smaller .lines ≡ before ++ line ∷ after
   pub lines-larger : larger .lines ≡ before ++ lineOf (line .«owner_kind») (line .owner) (line .class) quantity (line .factor) ∷ after
 
--- "another plant's origin fraction and own lines": the periods differ in these alone, of the plant at an index from 0
-pub record OnlyItsOwn (other : ℕ) (one two : Period) : Type 0 where
+-- A choice that leaves out the own lines of all other plants: it keeps the segments' lines and those of the plant at an index from 0.
+abbrev pub notOthers : ℕ → Line → Bool
+notOthers index line = eqb (line .«owner_kind») segmentOwner || ownedBy plantOwner (suc index) line
+
+-- "another plant's origin fraction and own lines": of all other plants than the one at an index, the periods differ in these alone
+pub record OthersOwn (index : ℕ) (one two : Period) : Type 0 where
   pub segments : two .segments ≡ one .segments
   pub count : length (two .plants) ≡ length (one .plants)
-  pub plants : (index : ℕ) → index ≢ other → getD (two .plants) index noPlant ≡ getD (one .plants) index noPlant
-  pub exported : getD (two .plants) other noPlant .exported ≡ getD (one .plants) other noPlant .exported
-  pub first : getD (two .plants) other noPlant .first ≡ getD (one .plants) other noPlant .first
-  pub lines :
-      chosen (λ (line : Line). not (ownedBy plantOwner (suc other) line)) (two .lines)
-      ≡ chosen (λ (line : Line). not (ownedBy plantOwner (suc other) line)) (one .lines)
+  pub exported : (each : ℕ) → getD (two .plants) each noPlant .exported ≡ getD (one .plants) each noPlant .exported
+  pub first : (each : ℕ) → getD (two .plants) each noPlant .first ≡ getD (one .plants) each noPlant .first
+  pub plant : getD (two .plants) index noPlant ≡ getD (one .plants) index noPlant
+  pub lines : chosen (notOthers index) (two .lines) ≡ chosen (notOthers index) (one .lines)
 
 -- "the same number, record, lines, route and route segments with their lines": of the plant at an index from 0
 pub record SameFor (index : ℕ) (one two : Period) : Type 0 where

@@ -38,5 +38,6 @@ gramsInKg = 1000
 abbrev pub inKg : ℕ → ℕ
 inKg total = roundedUp total gramsInKg
 
+-- An owner's emission.
 unfoldable pub emission : ℕ → ℕ → List Line → ℕ
 emission ownerKind owner lines = inKg (gramsOf ownerKind owner lines)

@@ -37,7 +37,7 @@ pub data FirstFails : List Test → (number place : ℕ) → Type 0 where
 -- None of them fails.
 pub data NoneFails : List Test → Type 0 where
   end : NoneFails []
-  passed : {test : Test} {tests : List Test} → test .fails ≡ false → NoneFails tests → NoneFails (test ∷ tests)
+  holds : {test : Test} {tests : List Test} → test .fails ≡ false → NoneFails tests → NoneFails (test ∷ tests)
 
 -- "Then 10 over the lines in file order": the total of the line's owner, up to and including this line
 unfoldable pub lineTests : List Line → (done : ℕ) → List Line → List Test

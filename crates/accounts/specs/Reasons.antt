@@ -1,5 +1,6 @@
--- "Numbers of refusal" and "Order" once more, without a reader: every test of a file at its place, in order. A test looks up in the file
--- the numbers that it needs. `proofs/Order.antt` shows that the answer is that of the first test that fails.
+-- "Numbers of refusal" and "Order" once more, without a reader of fields: every test of a file at its place, in order. A test looks up in the
+-- file the numbers that it needs; what a number is, and which of the faults 1, 2 and 3 it has, the number layer says (`readAt`).
+-- `proofs/Order.antt` shows that the answer is that of the first test that fails.
 use Prim.Native.Nat.{ℕ, zero, suc, _+_, _*_}
 use mathlib.Core.Bool.{Bool, false, not}
 use mathlib.Core.List.{List, [], _∷_, _++_}
@@ -41,7 +42,7 @@ valueIn (oneFault refusal) = 0
 unfoldable pub valueAt : List ℕ → ℕ → ℕ
 valueAt file k = valueIn (numberAt file k)
 
--- ---- where the records stand: "the file is a run of numbers", a header and then P plants, S segments and L lines
+-- ---- where the records stand: a header, and then P plants, S segments and L lines
 abbrev pub plantCount : List ℕ → ℕ
 plantCount file = valueAt file 1
 

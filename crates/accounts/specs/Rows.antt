@@ -40,6 +40,7 @@ plantRows lines accounts index (plant ∷ plants) (standing ∷ arrived) =
 abbrev pub segmentRow : (inflow outflow emission plants : ℕ) → List ℕ
 segmentRow inflow outflow emission plants = let lost = inflow - outflow in inflow ∷ outflow ∷ lost ∷ emission ∷ plants ∷ []
 
+-- The rows of the segments, one after another.
 unfoldable pub segmentRows : List Account → List ℕ
 segmentRows [] = []
 segmentRows (a ∷ accounts) = segmentRow (a .inflow) (a .outflow) (a .emission) (a .plants) ++ segmentRows accounts

@@ -1,13 +1,16 @@
 -- What happens at one segment of a period: what each plant brings, what it is credited, what it is charged.
-use Prim.Native.Nat.{ℕ, zero, suc}
+use Prim.Native.Nat.{ℕ, zero, suc, _+_, _*_, _/_, _≤_, _<_}
+use mathlib.Core.Path.{_≡_}
+use mathlib.Core.Bool.{true, false}
 use mathlib.Core.List.{List, [], _∷_, _++_, map}
+use mathlib.Core.Logic.{_⊎_}
 use lib.ListN.{getD}
 use Rattle.records.specs.declared.line.Line.{Line}
 use Rattle.records.specs.Segments.{noSegment}
 use Rattle.records.specs.Classes.{plantOwner}
 use Rattle.records.specs.Periods.{Period}
-use Rattle.accounts.specs.Emissions.{emission}
-use Rattle.accounts.specs.Walk.{Standing, amounts, credits, passed, Turn}
+use Rattle.accounts.specs.Emissions.{roundedUp, emission}
+use Rattle.accounts.specs.Walk.{Standing, nowhere, passes, amounts, sum, credits, passed, Turn}
 use Rattle.accounts.specs.Accounts.{Account, account, charge}
 use Rattle.accounts.specs.Quantified.{walk}
 
@@ -43,3 +46,38 @@ charged lines turn = map (charge (account lines turn)) (entering turn)
 unfoldable pub ownEmissions : List Line → ℕ → List ℕ
 ownEmissions lines zero = []
 ownEmissions lines (suc count) = ownEmissions lines count ++ emission plantOwner (suc count) lines ∷ []
+
+-- ---- one plant at a segment
+-- what the plant at an index from 0 brings there, and what it is credited
+abbrev pub amountOf : Turn → ℕ → ℕ
+amountOf turn index = getD (entering turn) index 0
+
+abbrev pub creditOf : Turn → ℕ → ℕ
+creditOf turn index = getD (leaving turn) index 0
+
+-- Its credit is the proportional part, rounded down or up, and no more than it brings.
+pub record Credited (turn : Turn) (index : ℕ) : Type 0 where
+  pub rounded :
+      (creditOf turn index ≡ amountOf turn index * turn .segment .outflow / sum (entering turn))
+      ⊎ (creditOf turn index ≡ roundedUp (amountOf turn index * turn .segment .outflow) (sum (entering turn)))
+  pub no-more : creditOf turn index ≤ amountOf turn index
+
+-- It is sent on: with its credit, no more than it brings, to the next segment where its route passes; else it stays as it is.
+pub record SentOn (turn : Turn) (index : ℕ) : Type 0 where
+  pub no-more : creditOf turn index ≤ amountOf turn index
+  pub goes-on :
+      passes (turn .own) (getD (turn .standings) index nowhere) ≡ true →
+      getD (afterwards turn) index nowhere ≡ record { before = turn .segment .next; amount = creditOf turn index }
+  pub stays :
+      passes (turn .own) (getD (turn .standings) index nowhere) ≡ false →
+      getD (afterwards turn) index nowhere ≡ getD (turn .standings) index nowhere
+
+-- ---- all plants at a segment
+-- What its charges add up to, beside its emission, its inflow and the number of plants on it.
+pub record AddUp (emission inflow plants charges : ℕ) : Type 0 where
+  -- they come to no less than E
+  pub no-less : emission ≤ charges
+  -- "by fewer kg than there are plants"
+  pub fewer : 0 < inflow → charges < emission + plants
+  -- "If A is 0, E must be 0 and charges are 0."
+  pub none : inflow ≡ 0 → (emission ≡ 0) × (charges ≡ 0)

@@ -27,9 +27,11 @@ passes own standing = eqb (standing .before) own
 abbrev pub brings : ℕ → Standing → ℕ
 brings own standing = cond (passes own standing) (standing .amount) 0
 
+-- What all plants bring to it.
 abbrev pub amounts : ℕ → List Standing → List ℕ
 amounts own = map (brings own)
 
+-- All numbers of a list together.
 unfoldable pub sum : List ℕ → ℕ
 sum [] = 0
 sum (n ∷ ns) = n + sum ns
@@ -52,6 +54,7 @@ credits outflow entering = creditsFrom (sum entering) outflow 0 entering
 abbrev pub sentOn : ℕ → ℕ → Standing → ℕ → Standing
 sentOn own next standing credit = cond (passes own standing) (record { before = next; amount = credit }) standing
 
+-- Where the plants are after a segment's turn.
 unfoldable pub passed : ℕ → Segment → List Standing → List Standing
 passed own segment standings = zipWith (sentOn own (segment .next)) standings (credits (segment .outflow) (amounts own standings))
 

@@ -1,28 +1,29 @@
 -- The tables of the C caller, read as numbers, are left as the call below promises for tables of numbers. So the theorems about an accepting
--- call's tables hold of the caller's bytes.
+-- call's tables hold of the caller's bytes. The result and the place tell the first of 01's reasons that holds, and a refusal leaves the bytes
+-- as they were.
 use Prim.Native.Nat.{ℕ, zero, suc, _+_, _-_, _*_, _/_, _^_, _≤_, _<_}
 use mathlib.Core.Path.{_≡_, refl, sym, ap, ap₂, _∙_}
 use mathlib.Core.List.{List, [], _∷_, _++_, append-assoc, flatMap}
+use mathlib.Core.Logic.{_↔_}
 use native.Mathlib.Nat.{pow-suc, div-lt-iff-lt-mul, div-mul-le-self, mod-add-div}
 use native.Mathlib.Omega.{arith}
 use lib.ListN.{length, drop, length-append, length-drop}
 use lib.Seq.{take-at, drop-at, drop-drop}
 use Rattle.records.specs.declared.answer.Answer.the-variants.{Accepted as Accepts}
-use Rattle.records.specs.Answers.{accepts, numberOf}
+use Rattle.records.specs.Answers.{accepts, numberOf, placeOf}
 use Rattle.accounts.specs.Tables.{entryBits, Entries}
-use Rattle.accounts.specs.Order.{Answer, refusal, accepted}
-use Rattle.accounts.specs.Quantified.{quantified}
+use Rattle.accounts.specs.Order.{Answer, refusal, accepted, Test, FirstFails, NoneFails}
+use Rattle.accounts.specs.Quantified.{rows, quantified}
+use Rattle.accounts.specs.Reasons.{allTests}
 use Rattle.accounts.specs.Accepted.{Accepted}
 use Rattle.accounts.proofs.Room.{accepted-room}
 use Rattle.accounts.proofs.Fits.{rows-fit}
+use Rattle.accounts.proofs.Order.{refused-exactly, accepted-is, accepted-exactly}
 use Rattle.accounts.proofs.Numbered.{refusal-numbered}
 use Rattle.period.specs.declared.call.Quantified.{Quantified}
-use Rattle.period.specs.Written.{verdictOf, overwritten, plantsAfter, segmentsAfter, plantsWritten, segmentsWritten, Answers}
-use Rattle.period.proofs.Outcome.{Promised as PromisedNumbers}
-use Rattle.period.proofs.LentTables.{Left}
-use Rattle.historian.specs.Tables.{numberBytes, byteValues, wholeNumbers, bytesOf, eightBytes, valueOf, firstNumbers, numbersOf, answerTo, bytesOverwritten, plantBytesAfter, segmentBytesAfter}
+use Rattle.period.specs.Written.{verdictOf, overwritten, plantsAfter, segmentsAfter, plantsWritten, segmentsWritten, Answers, Promised as PromisedNumbers, Left}
+use Rattle.historian.specs.Tables.{numberBytes, byteValues, wholeNumbers, bytesOf, eightBytes, valueOf, firstNumbers, numbersOf, answerTo, bytesOverwritten, plantBytesAfter, segmentBytesAfter, Outcome, Promised}
 use Rattle.historian.proofs.Bytes.{length-bytes, length-all}
-use Rattle.historian.proofs.Outcome.{Outcome, Promised}
 
 -- ---- one number: what is written is read back
 value-of-bytes : (count number : ℕ) → number < byteValues ^ count → valueOf (bytesOf count number) ≡ number
@@ -89,10 +90,21 @@ numbers-overwritten numbers table fit room =
     ∙ numbers-in-front numbers behind left count fit (omega (arith, room))
     ∙ ap (λ (rest : List ℕ). numbers ++ rest) (numbers-behind n left count table (omega (arith, room)))
 
+-- ---- a result other than 0 and a place tell the answer
+refusal-told :
+    (answer : Answer) (number place : ℕ) → 0 < number → numberOf (verdictOf answer) ≡ number → placeOf (verdictOf answer) ≡ place →
+    answer ≡ refusal number place
+refusal-told (refusal number' place') number place some is at = ap₂ refusal is at
+refusal-told (accepted plants segments) number place some is at = absurd (omega (arith, some, is))
+
 -- ---- the caller's tables, before and after
 module _ {file plants segments : List ℕ} {outcome : Outcome} (promised : Promised file plants segments outcome) where
   abbrev answer : Answer
   answer = answerTo file plants segments
+
+  -- 01's tests of the file and of the tables' whole numbers
+  abbrev tests : List Test
+  tests = allTests file (wholeNumbers plants) (wholeNumbers segments)
 
   -- tables of so many numbers get the same answer
   same-answer : quantified file (length (numbersOf plants)) (length (numbersOf segments)) ≡ answer
@@ -124,14 +136,50 @@ module _ {file plants segments : List ℕ} {outcome : Outcome} (promised : Promi
     segments-after = rw same-answer (ap numbersOf (promised .segments-after) ∙ segments-read answer refl);
   }
 
-  -- the result is 0 only where the file is accepted
-  pub accepted-told : outcome .result ≡ 0 → verdictOf answer ≡ accepts
-  accepted-told none = by-answer answer refl (sym (promised .result) ∙ none)
+  -- a result other than 0, with a place: that is the first test that fails
+  pub refused-exactly-bytes :
+      (number place : ℕ) → 0 < number → ((outcome .result ≡ number) × (outcome .place ≡ place)) ↔ FirstFails tests number place
+  refused-exactly-bytes number place some =
+      let exactly = refused-exactly file (wholeNumbers plants) (wholeNumbers segments) number place in (
+        λ told. exactly .0 (refusal-told answer number place some (sym (promised .result) ∙ told .0) (sym (promised .place) ∙ told .1)),
+        λ first. (
+          promised .result ∙ ap (λ (a : Answer). numberOf (verdictOf a)) (exactly .1 first),
+          promised .place ∙ ap (λ (a : Answer). placeOf (verdictOf a)) (exactly .1 first),
+        ),
+      )
+
+  -- "A refusal .. writes neither table."
+  pub untouched-bytes : (outcome .result ≡ 0 → ⊥) → (outcome .plants ≡ plants) × (outcome .segments ≡ segments)
+  untouched-bytes refused =
+      let same = by-answer answer (λ none. refused (promised .result ∙ none)) in
+      (promised .plants-after ∙ same .0, promised .segments-after ∙ same .1)
     where
-      by-answer : (a : Answer) → answer ≡ a → numberOf (verdictOf a) ≡ 0 → verdictOf a ≡ accepts
-      by-answer (refusal number place) is zero-told =
-          absurd (omega (arith, refusal-numbered file (wholeNumbers plants) (wholeNumbers segments) number place is, zero-told))
-      by-answer (accepted plant-numbers segment-numbers) is zero-told = refl
+      by-answer :
+          (a : Answer) → (numberOf (verdictOf a) ≡ 0 → ⊥) → (plantBytesAfter a plants ≡ plants) × (segmentBytesAfter a segments ≡ segments)
+      by-answer (refusal number place) some = (refl, refl)
+      by-answer (accepted plant-numbers segment-numbers) some = absurd (some refl)
+
+  -- where no test fails the answer is an acceptance
+  passed-accepts : NoneFails tests → verdictOf answer ≡ accepts
+  unfolding rows
+  passed-accepts none = ap verdictOf (accepted-exactly file (wholeNumbers plants) (wholeNumbers segments) .1 none)
+
+  -- the result is 0 exactly where none fails
+  pub accepted-exactly-bytes : (outcome .result ≡ 0) ↔ NoneFails tests
+  accepted-exactly-bytes = (
+    λ none. by-answer answer refl (sym (promised .result) ∙ none),
+    λ none. promised .result ∙ ap numberOf (passed-accepts none),
+  )
+    where
+      by-answer : (a : Answer) → answer ≡ a → numberOf (verdictOf a) ≡ 0 → NoneFails tests
+      by-answer (refusal number place) is none =
+          absurd (omega (arith, refusal-numbered file (wholeNumbers plants) (wholeNumbers segments) number place is, none))
+      by-answer (accepted plant-numbers segment-numbers) is none =
+          accepted-is file (wholeNumbers plants) (wholeNumbers segments) plant-numbers segment-numbers is
+
+  -- so it is 0 only where the file is accepted
+  pub accepted-told : outcome .result ≡ 0 → verdictOf answer ≡ accepts
+  accepted-told none = passed-accepts (accepted-exactly-bytes .0 none)
 
   -- and then they are left as an accepting call leaves tables of numbers, so that all its theorems hold of them
   pub left-in-bytes : outcome .result ≡ 0 → Left file (numbersOf (outcome .plants)) (numbersOf (outcome .segments))

@@ -2,23 +2,7 @@
 use Prim.Native.Nat.{ℕ}
 use mathlib.Core.Path.{_≡_, sym, ap, _∙_}
 use mathlib.Core.List.{List}
-use Rattle.records.specs.Answers.{numberOf, placeOf}
-use Rattle.period.specs.Written.{verdictOf}
-use Rattle.historian.specs.Tables.{answerTo, plantBytesAfter, segmentBytesAfter}
-
--- What a call leaves to its caller.
-pub record Outcome : Type 0 where
-  pub result : ℕ
-  pub place : ℕ
-  pub plants : List ℕ
-  pub segments : List ℕ
-
--- The promise of `steeplecuff_quantify`, clause by clause.
-pub record Promised (file plants segments : List ℕ) (outcome : Outcome) : Type 0 where
-  pub result : outcome .result ≡ numberOf (verdictOf (answerTo file plants segments))
-  pub place : outcome .place ≡ placeOf (verdictOf (answerTo file plants segments))
-  pub plants-after : outcome .plants ≡ plantBytesAfter (answerTo file plants segments) plants
-  pub segments-after : outcome .segments ≡ segmentBytesAfter (answerTo file plants segments) segments
+use Rattle.historian.specs.Tables.{Outcome, Promised}
 
 -- an outcome by its parts
 abbrev made : (result place : ℕ) (plants segments : List ℕ) → Outcome

@@ -1,10 +1,13 @@
 -- The tables of a C caller: "for the C caller a table is bytes, eight a number, least significant first, its length counted in whole
--- numbers".
+-- numbers"; and the promise of the call from C.
 use Prim.Native.Nat.{ℕ, zero, suc, _+_, _*_, _/_, _%_}
+use mathlib.Core.Path.{_≡_}
 use mathlib.Core.List.{List, [], _∷_, _++_, flatMap}
 use lib.ListN.{length, take, drop}
+use Rattle.records.specs.Answers.{numberOf, placeOf}
 use Rattle.accounts.specs.Order.{Answer, refusal, accepted}
 use Rattle.accounts.specs.Quantified.{quantified}
+use Rattle.period.specs.Written.{verdictOf}
 
 -- The bytes of a number, and the values that a byte has.
 abbrev pub numberBytes : ℕ
@@ -55,3 +58,17 @@ plantBytesAfter (accepted plants segments) table = bytesOverwritten plants table
 abbrev pub segmentBytesAfter : Answer → List ℕ → List ℕ
 segmentBytesAfter (refusal number place) table = table
 segmentBytesAfter (accepted plants segments) table = bytesOverwritten segments table
+
+-- What a call leaves to its caller.
+pub record Outcome : Type 0 where
+  pub result : ℕ
+  pub place : ℕ
+  pub plants : List ℕ
+  pub segments : List ℕ
+
+-- The promise of the call: the number of refusal and the place, 0 and 0 where the file is accepted, and the tables.
+pub record Promised (file plants segments : List ℕ) (outcome : Outcome) : Type 0 where
+  pub result : outcome .result ≡ numberOf (verdictOf (answerTo file plants segments))
+  pub place : outcome .place ≡ placeOf (verdictOf (answerTo file plants segments))
+  pub plants-after : outcome .plants ≡ plantBytesAfter (answerTo file plants segments) plants
+  pub segments-after : outcome .segments ≡ segmentBytesAfter (answerTo file plants segments) segments

@@ -1,8 +1,5 @@
 // "The plant historian, written in C, calls the library on byte slices."
-ghost use mathlib.Core.Path.{_≡_};
-ghost use Rattle.records.specs.Answers.{numberOf, placeOf};
-ghost use Rattle.period.specs.Written.{verdictOf};
-ghost use Rattle.historian.specs.Tables.{answerTo, plantBytesAfter, segmentBytesAfter};
+ghost use Rattle.historian.specs.Tables.{Promised};
 use crate::table::room;
 use crate::table::write_numbers;
 use period::PLANT_NUMBERS;
@@ -27,10 +24,7 @@ pub extern "C" fn steeplecuff_quantify(
     segments: &mut [u8],
     place: &mut u64,
 ) -> u32
-    ensures { λ r. ⌜ r ≡ numberOf (verdictOf (answerTo (now (file .entry)) (now (plants .entry)) (now (segments .entry)))) ⌝ }
-    ensures { λ _. ⌜ now (place .exit) ≡ placeOf (verdictOf (answerTo (now (file .entry)) (now (plants .entry)) (now (segments .entry)))) ⌝ }
-    ensures { λ _. ⌜ now (plants .exit) ≡ plantBytesAfter (answerTo (now (file .entry)) (now (plants .entry)) (now (segments .entry))) (now (plants .entry)) ⌝ }
-    ensures { λ _. ⌜ now (segments .exit) ≡ segmentBytesAfter (answerTo (now (file .entry)) (now (plants .entry)) (now (segments .entry))) (now (segments .entry)) ⌝ }
+    ensures { λ r. ⌜ Promised (now (file .entry)) (now (plants .entry)) (now (segments .entry)) (record { result = r; place = now (place .exit); plants = now (plants .exit); segments = now (segments .exit) }) ⌝ }
 {
     let mut plant_table = [0u64; MOST_PLANT_NUMBERS];
     let mut segment_table = [0u64; MOST_SEGMENT_NUMBERS];

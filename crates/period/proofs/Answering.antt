@@ -1,8 +1,7 @@
 -- The call, step by step: what reading, the lines and the settling come to is the answer of the definitions.
 use Prim.Native.Nat.{ℕ, _-_, _*_, _≤_}
 use mathlib.Core.Path.{_≡_, refl, sym, ap, _∙_}
-use mathlib.Core.Bool.{Bool, true, false, cond}
-use mathlib.Core.List.{List, [], _∷_, _++_}
+use mathlib.Core.List.{List, _++_}
 use native.Mathlib.Nat.{le-trans}
 use lib.ListN.{length, take, replicate}
 use lib.Seq.{take-append-seam}
@@ -21,63 +20,54 @@ use Rattle.records.proofs.Within.{each-on, read-within}
 use Rattle.accounts.specs.Rows.{plantRows, segmentRows}
 use Rattle.accounts.specs.Order.{Answer, refusal, accepted, Test, tested, lineTests, segmentTests, plantNumbers, segmentNumbers, tableTests}
 use Rattle.accounts.specs.Quantified.{accountsOf, stores, rows, judged, afterReading, quantified}
+use Rattle.accounts.proofs.Testing.{none-answers, none-fails}
 use Rattle.accounts.proofs.Accepting.{accounts-length}
 use Rattle.accounts.proofs.RowsAt.{stores-length, plant-rows-long, segment-rows-long}
-use Rattle.period.specs.declared.call.Quantified.{Quantified}
 use Rattle.period.specs.declared.emissions.Emissions.{Emissions}
-use Rattle.period.specs.Written.{verdictOf, plantsAfter, segmentsAfter, plantsWritten, segmentsWritten, Answers}
+use Rattle.period.specs.Written.{verdictOf, plantsWritten, segmentsWritten, Answers, Promised}
 use Rattle.period.specs.Inside.{Passes, Small, AddedUp, Finished, settled, Settled, nothing}
-
--- what the call promises, of what it hands back and of the tables before and after
-abbrev Answered : Quantified → Answer → (plants plants' segments segments' : List ℕ) → Type 0
-Answered r answer plants plants' segments segments' =
-    Answers r answer × ((plants' ≡ plantsAfter answer plants) × (segments' ≡ segmentsAfter answer segments))
+use Rattle.period.proofs.Refusing.{accepted-told}
 
 -- ---- a refusal writes nothing
-refused-answer :
-    (told : Told) (answer : Answer) (plants plants' segments segments' : List ℕ) → (said told ≡ accepts → ⊥) →
-    Finished answer (said told) plants plants' segments segments' → Answered (nothing told) answer plants plants' segments segments'
-refused-answer told (refusal number place) plants plants' segments segments' not finished =
-    (record { verdict = finished .0; plants = refl; segments = refl }, (finished .1, finished .2))
-refused-answer told (accepted rows' rows'') plants plants' segments segments' not finished = absurd (not (finished .0))
+nothing-written : (told : Told) (answer : Answer) → (said told ≡ accepts → ⊥) → said told ≡ verdictOf answer → Answers (nothing told) answer
+nothing-written told (refusal number place) not verdict = record { verdict = verdict; plants = refl; segments = refl }
+nothing-written told (accepted plants segments) not verdict = absurd (not verdict)
+
+refused-promised :
+    (file : List ℕ) (told : Told) (plants plants' segments segments' : List ℕ) → (said told ≡ accepts → ⊥) →
+    Finished (quantified file (length plants) (length segments)) (said told) plants plants' segments segments' →
+    Promised file plants segments (nothing told) plants' segments'
+refused-promised file told plants plants' segments segments' not finished = record {
+  answers = nothing-written told (quantified file (length plants) (length segments)) not (finished .0);
+  plants-after = finished .1;
+  segments-after = finished .2;
+}
 
 -- ---- acceptance writes the rows
 -- tests that accept leave the answer as it is
-accepted-tested :
-    (tests : List Test) (plants segments : List ℕ) → accepts ≡ verdictOf (tested tests (accepted plants segments)) →
-    tested tests (accepted plants segments) ≡ accepted plants segments
-unfolding tested
-accepted-tested [] plants segments e = refl
-accepted-tested (test ∷ tests) plants segments e = by-test (test .fails) (accepted-tested tests plants segments) e
-  where
-    by-test :
-        (b : Bool) → (accepts ≡ verdictOf (tested tests (accepted plants segments)) → tested tests (accepted plants segments) ≡ accepted plants segments) →
-        accepts ≡ verdictOf (cond b (refusal (test .number) (test .place)) (tested tests (accepted plants segments))) →
-        cond b (refusal (test .number) (test .place)) (tested tests (accepted plants segments)) ≡ accepted plants segments
-    by-test true then e' = absurd (refuses-not-accepts (sym e'))
-    by-test false then e' = then e'
+accepted-tested : (tests : List Test) (answer : Answer) → verdictOf (tested tests answer) ≡ accepts → tested tests answer ≡ answer
+accepted-tested tests answer =
+    accepted-told (tested tests answer) (tested tests answer ≡ answer)
+    (λ plants segments is. none-answers answer (none-fails tests answer plants segments is))
 
-accepted-answer :
-    (period : Period) (told : Told) (plantTable plantTable' segmentTable segmentTable' : List ℕ) → said told ≡ accepts →
-    Finished (settled period (length plantTable) (length segmentTable)) (said told) plantTable plantTable' segmentTable segmentTable' →
-    Answered
+rows-written :
+    (period : Period) (told : Told) (plantTable segmentTable : ℕ) → said told ≡ accepts →
+    said told ≡ verdictOf (settled period plantTable segmentTable) →
+    Answers
     (record { answer = told; «plant_numbers» = plantNumbers * length (period .plants); «segment_numbers» = segmentNumbers * length (period .segments) })
-    (settled period (length plantTable) (length segmentTable)) plantTable plantTable' segmentTable segmentTable'
+    (settled period plantTable segmentTable)
 unfolding rows
-accepted-answer period told plantTable plantTable' segmentTable segmentTable' accepting finished =
+rows-written period told plantTable segmentTable accepting verdict =
     let accounts = accountsOf period in
     let plants = plantRows (period .lines) accounts 0 (period .plants) (stores period) in
-    let is : settled period (length plantTable) (length segmentTable) ≡ accepted plants (segmentRows accounts) =
-    accepted-tested (segmentTests accounts ++ tableTests (length (period .plants)) (length (period .segments)) (length plantTable) (length segmentTable))
-    plants (segmentRows accounts) (sym accepting ∙ finished .0) in (
-      record {
-        verdict = finished .0;
-        plants = sym (ap plantsWritten is
-            ∙ plant-rows-long (period .lines) accounts 0 (period .plants) (stores period) (stores-length period));
-        segments = sym (ap segmentsWritten is ∙ segment-rows-long accounts ∙ ap (λ (n : ℕ). segmentNumbers * n) (accounts-length period));
-      },
-      (finished .1, finished .2),
-    )
+    let is : settled period plantTable segmentTable ≡ accepted plants (segmentRows accounts) =
+    accepted-tested (segmentTests accounts ++ tableTests (length (period .plants)) (length (period .segments)) plantTable segmentTable)
+    (accepted plants (segmentRows accounts)) (sym verdict ∙ accepting) in
+    record {
+      verdict = verdict;
+      plants = sym (ap plantsWritten is ∙ plant-rows-long (period .lines) accounts 0 (period .plants) (stores period) (stores-length period));
+      segments = sym (ap segmentsWritten is ∙ segment-rows-long accounts ∙ ap (λ (n : ℕ). segmentNumbers * n) (accounts-length period));
+    }
 
 -- ---- the records at the front of their arrays
 front-is : {A : Type 0} (none : A) (room count : ℕ) (held array : List A) → count ≡ length held → array ≡ filled none room held → take count array ≡ held
@@ -89,10 +79,10 @@ module _ (file : List ℕ) (r : Reading) (held : Held r (periodFile file)) where
   -- refused by reading
   pub reading-refused :
       (plantTable segmentTable : List ℕ) → (said (r .answer) ≡ accepts → ⊥) →
-      Answered (nothing (r .answer)) (quantified file (length plantTable) (length segmentTable)) plantTable plantTable segmentTable segmentTable
+      Promised file plantTable segmentTable (nothing (r .answer)) plantTable segmentTable
   unfolding quantified
   reading-refused plantTable segmentTable not =
-      refused-answer (r .answer) (afterReading (periodFile file) (length plantTable) (length segmentTable)) plantTable plantTable segmentTable segmentTable not
+      refused-promised file (r .answer) plantTable plantTable segmentTable segmentTable not
       (by-outcome (periodFile file) (held .answer))
     where
       by-outcome :
@@ -152,10 +142,10 @@ module _ (file : List ℕ) (r : Reading) (held : Held r (periodFile file)) where
 
       pub lines-refused :
           (plantTable segmentTable : List ℕ) → (said (emitted .answer) ≡ accepts → ⊥) →
-          Answered (nothing (emitted .answer)) (quantified file (length plantTable) (length segmentTable)) plantTable plantTable segmentTable segmentTable
+          Promised file plantTable segmentTable (nothing (emitted .answer)) plantTable segmentTable
       unfolding judged
       lines-refused plantTable segmentTable not =
-          refused-answer (emitted .answer) (quantified file (length plantTable) (length segmentTable)) plantTable plantTable segmentTable segmentTable not
+          refused-promised file (emitted .answer) plantTable plantTable segmentTable segmentTable not
           (rw (read-whole (length plantTable) (length segmentTable)) (by-verdict (said (emitted .answer)) not (of-lines .tests)))
         where
           rest : List Test
@@ -200,18 +190,20 @@ module _ (file : List ℕ) (r : Reading) (held : Held r (periodFile file)) where
               rw (lines-pass (length plantTable) (length segmentTable))
               (rw (plants-front, segments-front) at (settles (period .lines) (of-lines .kg passing)))
 
-          pub settling-refused :
-              (said told ≡ accepts → ⊥) →
-              Answered (nothing told) (quantified file (length plantTable) (length segmentTable)) plantTable plantTable' segmentTable segmentTable'
-          settling-refused not =
-              refused-answer told (quantified file (length plantTable) (length segmentTable)) plantTable plantTable' segmentTable segmentTable' not finished
+          pub settling-refused : (said told ≡ accepts → ⊥) → Promised file plantTable segmentTable (nothing told) plantTable' segmentTable'
+          settling-refused not = refused-promised file told plantTable plantTable' segmentTable segmentTable' not finished
 
           pub settling-accepted :
               said told ≡ accepts →
-              Answered
+              Promised file plantTable segmentTable
               (record { answer = told; «plant_numbers» = plantNumbers * r .«plant_count»; «segment_numbers» = segmentNumbers * r .«segment_count» })
-              (quantified file (length plantTable) (length segmentTable)) plantTable plantTable' segmentTable segmentTable'
+              plantTable' segmentTable'
           settling-accepted is =
-              rw (held .plant-count, held .segment-count, lines-pass (length plantTable) (length segmentTable))
-              (accepted-answer period told plantTable plantTable' segmentTable segmentTable' is
-              (rw (lines-pass (length plantTable) (length segmentTable)) at finished))
+              let passed = lines-pass (length plantTable) (length segmentTable) in
+              record {
+                answers =
+                    rw (held .plant-count, held .segment-count, passed)
+                    (rows-written period told (length plantTable) (length segmentTable) is (finished .0 ∙ ap verdictOf passed));
+                plants-after = finished .1;
+                segments-after = finished .2;
+              }

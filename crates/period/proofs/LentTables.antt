@@ -1,44 +1,38 @@
 -- Requirement 3 on the lent tables: the theorems about an accepted file's rows, said of what an accepting call leaves in the tables that it
 -- was lent. They follow from the call's promise alone.
-use Prim.Native.Nat.{ℕ, _+_, _≤_, _<_}
+use Prim.Native.Nat.{ℕ, suc, _+_, _≤_, _<_}
 use mathlib.Core.Path.{_≡_, refl, sym, ap, _∙_}
-use mathlib.Core.List.{List}
-use mathlib.Core.Logic.{_≢_}
+use mathlib.Core.Bool.{true}
+use mathlib.Core.List.{List, map}
 use native.Mathlib.Nat.{mul-le-mul-left}
 use lib.Count.{ones}
 use lib.ListN.{length, drop, getD}
+use Rattle.records.specs.Plants.{noPlant}
 use Rattle.records.specs.Segments.{noSegment}
-use Rattle.records.specs.Answers.{accepts, said}
+use Rattle.records.specs.Classes.{plantOwner}
+use Rattle.records.specs.Answers.{accepts}
 use Rattle.records.proofs.Verdicts.{refuses-not-accepts}
-use Rattle.accounts.specs.Walk.{nowhere, sum}
+use Rattle.accounts.specs.Emissions.{emission}
+use Rattle.accounts.specs.Walk.{nowhere, passes, sum, Turn}
 use Rattle.accounts.specs.Accounts.{hasBit}
 use Rattle.accounts.specs.Order.{Answer, refusal, accepted, plantNumbers, segmentNumbers}
-use Rattle.accounts.specs.Quantified.{stores, quantified}
+use Rattle.accounts.specs.Quantified.{walk, stores, quantified}
 use Rattle.accounts.specs.Accepted.{Accepted, held}
-use Rattle.accounts.specs.Tables.{rowAt, inRow, columnSum, exportedColumn, storedColumn, unitsColumn, inflowColumn, outflowColumn, lossColumn, emissionColumn, setColumn}
-use Rattle.accounts.specs.Shares.{turnAt, entering, leaving, charged}
+use Rattle.accounts.specs.Tables.{rowAt, inRow, columnSum, exportedColumn, storedColumn, associatedColumn, unitsColumn, inflowColumn, outflowColumn, lossColumn, emissionColumn, setColumn}
+use Rattle.accounts.specs.Shares.{turnAt, entering, leaving, charged, ownEmissions, creditOf, Credited, SentOn, AddUp}
 use Rattle.accounts.specs.Routes.{Alone, AloneInRows}
-use Rattle.accounts.specs.Changes.{OneLineLarger, OnlyItsOwn, SameFor}
+use Rattle.accounts.specs.Changes.{OneLineLarger, OthersOwn, SameFor}
 use Rattle.accounts.proofs.Accepting.{accepted-means}
 use Rattle.accounts.proofs.RowsAt.{row-front, plant-row-at, plants-long, segments-long, column-same}
-use Rattle.accounts.proofs.ProportionalPart.{Credited, proportional-part}
+use Rattle.accounts.proofs.ProportionalPart.{sent-on, proportional-part, stored-at-store}
 use Rattle.accounts.proofs.CreditsAddUp.{credits-add-up, inflow-told, outflow-told}
 use Rattle.accounts.proofs.Balance.{balance}
 use Rattle.accounts.proofs.AloneOnItsRoute.{alone-on-its-route, sets-tell}
 use Rattle.accounts.proofs.LargerLine.{larger-line}
 use Rattle.accounts.proofs.OthersFractionAndLines.{others-fraction-and-lines, no-segment-changes}
-use Rattle.accounts.proofs.ChargesAddUp.{AddUp, charges-add-up}
-use Rattle.period.specs.declared.call.Quantified.{Quantified}
-use Rattle.period.specs.Written.{verdictOf, plantsAfter, segmentsAfter}
-use Rattle.period.proofs.Outcome.{Promised}
-
--- The call was lent some tables, accepted the file, and left these.
-pub record Left (file plants segments : List ℕ) : Type 0 where
-  pub plants-before : List ℕ
-  pub segments-before : List ℕ
-  pub told : Quantified
-  pub promised : Promised file plants-before segments-before told plants segments
-  pub accepting : said (told .answer) ≡ accepts
+use Rattle.accounts.proofs.ChargesAddUp.{charges-add-up}
+use Rattle.accounts.proofs.ChargesCounted.{charges-of-plant, charges-counted}
+use Rattle.period.specs.Written.{verdictOf, plantsAfter, segmentsAfter, Left}
 
 -- ---- the tables hold the rows of an accepted file
 record Rows (file plants segments : List ℕ) : Type 0 where
@@ -95,20 +89,38 @@ module _ {file plants segments : List ℕ} (left : Left file plants segments) wh
   of-segment : (s column : ℕ) → s < S → inRow segmentNumbers s column segments ≡ inRow segmentNumbers s column (rows-left left .segment-numbers)
   of-segment s column segment = ap (λ (row : List ℕ). getD row column 0) (rows-left left .segment-rows s segment)
 
-  -- 1: where the segment's row shows inflow, each plant is credited its proportional part
+  -- Proportional part: where the segment's row shows inflow, each plant is credited its proportional part
   pub proportional-part-left :
       (s p : ℕ) → s < S → p < P → 0 < inRow segmentNumbers s inflowColumn segments → Credited (turnAt (held file) s) p
   proportional-part-left s p segment plant some =
       proportional-part (rows-left left .accepted-file) s p segment plant
       (rw (inflow-told (rows-left left .accepted-file) s segment, ← of-segment s inflowColumn segment) some)
 
-  -- and what is stored stands in its row
+  -- every plant is sent on with its credit where its route passes, else it stays
+  pub sent-on-left : (s p : ℕ) → s < S → p < P → SentOn (turnAt (held file) s) p
+  sent-on-left = sent-on (rows-left left .accepted-file)
+
+  -- and the credit at the store stands in its row
+  pub stored-at-store-left :
+      (s p : ℕ) → s < S → p < P →
+      passes (turnAt (held file) s .own) (getD (turnAt (held file) s .standings) p nowhere) ≡ true → turnAt (held file) s .segment .next ≡ 0 →
+      inRow plantNumbers p storedColumn plants ≡ creditOf (turnAt (held file) s) p
+  stored-at-store-left s p segment plant here last =
+      of-plant p storedColumn plant ∙ stored-at-store (rows-left left .accepted-file) s p segment plant here last
+
+  -- as does what it exported
+  pub exported-left : (p : ℕ) → p < P → inRow plantNumbers p exportedColumn plants ≡ getD (held file .plants) p noPlant .exported
+  exported-left p plant =
+      of-plant p exportedColumn plant
+      ∙ ap (λ (row : List ℕ). getD row exportedColumn 0) (plant-row-at (accepted-means (rows-left left .accepted-file)) p plant)
+
+  -- and the amount that it has after the last segment
   pub stored-left : (p : ℕ) → p < P → inRow plantNumbers p storedColumn plants ≡ getD (stores (held file)) p nowhere .amount
   stored-left p plant =
       of-plant p storedColumn plant
       ∙ ap (λ (row : List ℕ). getD row storedColumn 0) (plant-row-at (accepted-means (rows-left left .accepted-file)) p plant)
 
-  -- 2: what the plants bring adds up to the inflow in the segment's row, and their credits to the outflow there, which is the metered one
+  -- Credits add up: what the plants bring adds up to the inflow in the segment's row, and their credits to the outflow there, the metered one
   pub credits-add-up-left :
       (s : ℕ) → s < S →
       (sum (entering (turnAt (held file) s)) ≡ inRow segmentNumbers s inflowColumn segments)
@@ -119,7 +131,7 @@ module _ {file plants segments : List ℕ} (left : Left file plants segments) wh
       let out = outflow-told given s segment ∙ sym (of-segment s outflowColumn segment) in
       (inflow-told given s segment ∙ sym (of-segment s inflowColumn segment), out, sym out ∙ credits-add-up given s segment)
 
-  -- 3: all exports are all that is stored and what every segment lost
+  -- Balance: all exports are all that is stored and what every segment lost
   pub balance-left :
       columnSum plantNumbers exportedColumn P plants ≡ columnSum plantNumbers storedColumn P plants + columnSum segmentNumbers lossColumn S segments
   balance-left =
@@ -130,7 +142,7 @@ module _ {file plants segments : List ℕ} (left : Left file plants segments) wh
       )
       (balance (rows-left left .accepted-file))
 
-  -- 7: what a segment charges adds up to no less than its emission, and to less than that and one kg for each plant of its set
+  -- Charges add up: what a segment charges adds up to no less than its emission, and to less than that and one kg for each plant of its set
   pub charges-add-up-left :
       (s : ℕ) → s < S →
       AddUp
@@ -142,7 +154,23 @@ module _ {file plants segments : List ℕ} (left : Left file plants segments) wh
       rw (of-segment s emissionColumn segment, of-segment s inflowColumn segment, of-segment s setColumn segment)
       (charges-add-up (rows-left left .accepted-file) s segment)
 
-  -- 5: the sets in the segments' rows tell where a plant is alone on its route
+  -- Charges counted: what is associated with a plant is its own emissions and what each segment charges it
+  pub charges-of-plant-left :
+      (p : ℕ) → p < P →
+      inRow plantNumbers p associatedColumn plants
+      ≡ emission plantOwner (suc p) (held file .lines)
+      + sum (map (λ (turn : Turn). getD (charged (held file .lines) turn) p 0) (walk (held file)))
+  charges-of-plant-left p plant = of-plant p associatedColumn plant ∙ charges-of-plant (rows-left left .accepted-file) p plant
+
+  -- and with all plants, their own emissions and the charges of all segments
+  pub charges-counted-left :
+      columnSum plantNumbers associatedColumn P plants
+      ≡ sum (ownEmissions (held file .lines) P) + sum (map (λ (turn : Turn). sum (charged (held file .lines) turn)) (walk (held file)))
+  charges-counted-left =
+      column-same plantNumbers associatedColumn P (rows-left left .plant-numbers) plants (rows-left left .plant-rows)
+      ∙ charges-counted (rows-left left .accepted-file)
+
+  -- Alone on its route: the sets in the segments' rows tell where a plant is alone on its route
   pub sets-tell-left : (index : ℕ) → index < P → AloneInRows segments S index → Alone (held file) index
   sets-tell-left index there alone =
       sets-tell (rows-left left .accepted-file) index there .0
@@ -161,7 +189,7 @@ module _
     same-plant-row index below₁ below₂ same =
         rows-left left₂ .plant-rows index below₂ ∙ same ∙ sym (rows-left left₁ .plant-rows index below₁)
 
-    -- 4: the period with the larger line gives no plant more units
+    -- Larger line: the period with the larger line gives no plant more units
     pub larger-line-left :
         OneLineLarger (held file₁) (held file₂) → (index : ℕ) → index < length (held file₁ .plants) →
         inRow plantNumbers index unitsColumn plants₂ ≤ inRow plantNumbers index unitsColumn plants₁
@@ -169,7 +197,7 @@ module _
         rw (of-plant left₂ index unitsColumn (rw (larger .plants) below), of-plant left₁ index unitsColumn below)
         (larger-line (rows-left left₁ .accepted-file) (rows-left left₂ .accepted-file) larger index below)
 
-    -- 5: a plant that is alone on its route in both, and the same, has the same row
+    -- Alone on its route: a plant that is alone on its route in both, and the same, has the same row
     pub alone-on-its-route-left :
         (index : ℕ) → index < length (held file₁ .plants) → index < length (held file₂ .plants) → SameFor index (held file₁) (held file₂) →
         Alone (held file₁) index → Alone (held file₂) index → rowAt plantNumbers index plants₂ ≡ rowAt plantNumbers index plants₁
@@ -185,20 +213,21 @@ module _
     alone-by-sets-left index there₁ there₂ same alone₁ alone₂ =
         alone-on-its-route-left index there₁ there₂ same (sets-tell-left left₁ index there₁ alone₁) (sets-tell-left left₂ index there₂ alone₂)
 
-    -- 6: another plant's origin fraction and own lines change no row but its own
+    -- Other plants' fractions and lines: they do not change the row of the plant that stays the same
     pub others-fraction-and-lines-left :
-        (other : ℕ) → OnlyItsOwn other (held file₁) (held file₂) → (index : ℕ) → index < length (held file₁ .plants) → index ≢ other →
+        (index : ℕ) → index < length (held file₁ .plants) → OthersOwn index (held file₁) (held file₂) →
         rowAt plantNumbers index plants₂ ≡ rowAt plantNumbers index plants₁
-    others-fraction-and-lines-left other change index below apart =
+    others-fraction-and-lines-left index below change =
         same-plant-row index below (rw (change .count) below)
-        (others-fraction-and-lines (rows-left left₁ .accepted-file) (rows-left left₂ .accepted-file) other change index below apart)
+        (others-fraction-and-lines (rows-left left₁ .accepted-file) (rows-left left₂ .accepted-file) index below change)
 
+    -- nor any segment's
     pub no-segment-changes-left :
-        (other : ℕ) → OnlyItsOwn other (held file₁) (held file₂) → (index : ℕ) → index < length (held file₁ .segments) →
-        rowAt segmentNumbers index segments₂ ≡ rowAt segmentNumbers index segments₁
-    no-segment-changes-left other change index below =
-        rows-left left₂ .segment-rows index (rw (change .segments) below)
+        (index : ℕ) → OthersOwn index (held file₁) (held file₂) → (s : ℕ) → s < length (held file₁ .segments) →
+        rowAt segmentNumbers s segments₂ ≡ rowAt segmentNumbers s segments₁
+    no-segment-changes-left index change s below =
+        rows-left left₂ .segment-rows s (rw (change .segments) below)
         ∙ ap
-        (rowAt segmentNumbers index)
-        (no-segment-changes (rows-left left₁ .accepted-file) (rows-left left₂ .accepted-file) other change)
-        ∙ sym (rows-left left₁ .segment-rows index below)
+        (rowAt segmentNumbers s)
+        (no-segment-changes (rows-left left₁ .accepted-file) (rows-left left₂ .accepted-file) index change)
+        ∙ sym (rows-left left₁ .segment-rows s below)

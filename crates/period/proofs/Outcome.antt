@@ -2,18 +2,10 @@
 use Prim.Native.Nat.{ℕ}
 use mathlib.Core.Path.{_≡_, sym, ap, _∙_}
 use mathlib.Core.List.{List}
-use lib.ListN.{length}
 use Rattle.records.specs.declared.answer.Answer.{Answer as Told}
 use Rattle.records.proofs.Outcome.{said-once}
-use Rattle.accounts.specs.Quantified.{quantified}
 use Rattle.period.specs.declared.call.Quantified.{Quantified}
-use Rattle.period.specs.Written.{plantsAfter, segmentsAfter, Answers}
-
--- what the call hands back and leaves in the two tables, for a file and the tables as they were
-pub record Promised (file plants segments : List ℕ) (r : Quantified) (plants' segments' : List ℕ) : Type 0 where
-  pub answers : Answers r (quantified file (length plants) (length segments))
-  pub plants-after : plants' ≡ plantsAfter (quantified file (length plants) (length segments)) plants
-  pub segments-after : segments' ≡ segmentsAfter (quantified file (length plants) (length segments)) segments
+use Rattle.period.specs.Written.{Promised}
 
 -- an answer by its fields
 abbrev made : Told → ℕ → ℕ → Quantified

@@ -12,15 +12,16 @@ use Rattle.accounts.specs.Quantified.{rows, quantified}
 use Rattle.accounts.specs.Reasons.{allTests}
 use Rattle.accounts.proofs.Order.{refused-exactly, accepted-is, accepted-exactly}
 use Rattle.period.specs.declared.call.Quantified.{Quantified}
-use Rattle.period.specs.Written.{verdictOf, plantsAfter, segmentsAfter}
-use Rattle.period.proofs.Outcome.{Promised}
+use Rattle.period.specs.Written.{verdictOf, plantsAfter, segmentsAfter, Promised}
 
 -- ---- a verdict tells the answer
 refusal-told : (answer : Answer) (number place : ℕ) → verdictOf answer ≡ refuses number place → answer ≡ refusal number place
 refusal-told (refusal number' place') number place e = cc
 refusal-told (accepted plants segments) number place e = absurd (refuses-not-accepts (sym e))
 
-accepted-told : (answer : Answer) (Claim : Type 0) → ((plants segments : List ℕ) → answer ≡ accepted plants segments → Claim) → verdictOf answer ≡ accepts → Claim
+pub accepted-told :
+    (answer : Answer) (Claim : Type 0) → ((plants segments : List ℕ) → answer ≡ accepted plants segments → Claim) →
+    verdictOf answer ≡ accepts → Claim
 accepted-told (refusal number place) Claim then e = absurd (refuses-not-accepts e)
 accepted-told (accepted plants segments) Claim then e = then plants segments refl
 

@@ -8,7 +8,7 @@ use native.Mathlib.Nat.{le-trans, le-of-suc-le-suc, eq-or-lt-of-le}
 use native.Mathlib.Omega.{arith}
 use lib.Bits.{bitOr}
 use lib.Dec.{eqb}
-use lib.ListN.{length, length-map, take, drop, getD, set, length-set}
+use lib.ListN.{length, length-map, drop, getD, set, length-set}
 use lib.Seq.{drop-cons, getD-set-same, getD-set-other, ext-getD}
 use borrow.Author.Tests.{ne-eqb}
 use Rattle.number.specs.Groups.{largest}
@@ -25,19 +25,19 @@ use Rattle.accounts.specs.Accounts.{Account, setOf, account, hasBit}
 use Rattle.accounts.specs.Order.{Answer, Test, tested, segmentTests}
 use Rattle.accounts.proofs.Credits.{credited-most}
 use Rattle.accounts.proofs.Sets.{set-has, set-same, set-joined}
-use Rattle.accounts.proofs.Walks.{getD-map, passed-at, arrived-length, arrived-on}
-use Rattle.accounts.proofs.Turned.{sent-ahead}
-use Rattle.period.specs.Inside.{Passes, Refuses, KgOf, Sized, cell, column, AmountsHold, SetsHold, StoredHold, Started, accountBy, Moved}
+use Rattle.accounts.proofs.Walks.{getD-map, passed-at, arrived-on}
+use Rattle.accounts.proofs.Turned.{sent-ahead, after as turned-after, after-length as turned-length}
+use Rattle.period.specs.Inside.{Passes, Refuses, KgOf, Sized, cell, column, AmountsHold, SetsHold, StoredHold, Started, accountBy, Moved, periodOf}
 use Rattle.period.proofs.Columns.{column-length, column-at}
 use Rattle.period.proofs.Steps.{brings-most, brought, stands, no-more as at-most}
 
 module _ (plants : List Plant) (segments : List Segment) where
-  -- where the plants are after so many turns
+  -- where the plants are after so many turns, whatever the lines
   abbrev pub after : ℕ → List Standing
-  after s = arrived 1 (take s segments) (map starting plants)
+  after = turned-after (periodOf plants segments [])
 
   pub after-length : (s : ℕ) → length (after s) ≡ length plants
-  after-length s = arrived-length 1 (take s segments) (map starting plants) ∙ length-map plants starting
+  after-length = turned-length (periodOf plants segments [])
 
   pub after-on : (s : ℕ) → s < length segments → after (suc s) ≡ passed (suc s) (getD segments s noSegment) (after s)
   after-on s below = arrived-on 1 segments (map starting plants) s (suc s) (omega arith) below

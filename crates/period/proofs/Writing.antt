@@ -1,14 +1,15 @@
 -- Writing rows of one length into a table, one after another; and how large a segment's charge can be.
-use Prim.Native.Nat.{ℕ, zero, suc, _+_, _-_, _*_, _^_, _≤_, _<_, zero-le}
+use Prim.Native.Nat.{ℕ, suc, _+_, _-_, _*_, _^_, _≤_, _<_}
 use mathlib.Core.Path.{_≡_, sym, ap, _∙_}
 use mathlib.Core.List.{List, [], _++_}
-use native.Mathlib.Nat.{div-zero, div-lt-iff-lt-mul, le-trans, mul-le-mul, mul-le-mul-left, mul-le-mul-right, mul-zero, zero-lt-suc}
+use native.Mathlib.Nat.{le-trans, mul-comm, mul-le-mul, mul-le-mul-left, mul-zero}
 use native.Mathlib.Numerals.{add-one}
 use native.Mathlib.Omega.{arith}
 use lib.ListN.{length, take, drop, length-append}
 use lib.Seq.{take-at, drop-at, drop-drop, length-front, length-take-le}
 use Rattle.number.specs.Groups.{largest}
 use Rattle.accounts.specs.Emissions.{roundedUp}
+use Rattle.accounts.proofs.Credits.{up-most}
 
 -- ---- rows of n numbers, one behind another
 module _ (n : ℕ) (rows : ℕ → List ℕ) (count : ℕ) (entry : List ℕ) where
@@ -62,11 +63,4 @@ module _ {amount inflow emission : ℕ} (h : (amount ≤ inflow) × (inflow ≤ 
 
   -- it is not over the segment's emission
   pub charge-at-most : roundedUp (amount * emission) inflow ≤ emission
-  charge-at-most = by-inflow inflow (h .0)
-    where
-      by-inflow : (i : ℕ) → amount ≤ i → roundedUp (amount * emission) i ≤ emission
-      by-inflow zero none = rw div-zero zero-le
-      by-inflow (suc i) some =
-          let product : amount * emission ≤ suc i * emission = mul-le-mul-right emission some in
-          let less : roundedUp (amount * emission) (suc i) < suc emission = div-lt-iff-lt-mul (zero-lt-suc i) .1 (omega arith) in
-          omega arith
+  charge-at-most = up-most inflow (amount * emission) emission (rw (mul-comm amount emission) (mul-le-mul-left emission (h .0)))

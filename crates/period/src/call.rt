@@ -1,14 +1,7 @@
 // The call: a period file and two lent tables in, the answer out, and the rows in the tables.
 ghost use mathlib.Core.Path.{_≡_};
-ghost use lib.ListN.{length};
-ghost use Rattle.records.specs.Answers.{said};
-ghost use Rattle.accounts.specs.Quantified.{quantified};
 ghost use Rattle.period.specs.Inside.{nothing};
-ghost use Rattle.period.specs.Written.{
-  Answers,
-  plantsAfter,
-  segmentsAfter,
-};
+ghost use Rattle.period.specs.Written.{Promised};
 use crate::emissions::add_up;
 use crate::rows::PLANT_NUMBERS;
 use crate::rows::SEGMENT_NUMBERS;
@@ -27,9 +20,7 @@ pub struct Quantified {
 // Answers a file of any length and content, with tables of any lengths. A refusal leaves both tables
 // as they were; acceptance writes the rows from their start, and later entries stay.
 pub fn quantify(file: &[u8], plant_table: &mut [u64], segment_table: &mut [u64]) -> Quantified
-    ensures { λ r. ⌜ Answers r (quantified (now (file .entry)) (length (now («plant_table» .entry))) (length (now («segment_table» .entry)))) ⌝ }
-    ensures { λ r. ⌜ now («plant_table» .exit) ≡ plantsAfter (quantified (now (file .entry)) (length (now («plant_table» .entry))) (length (now («segment_table» .entry)))) (now («plant_table» .entry)) ⌝ }
-    ensures { λ r. ⌜ now («segment_table» .exit) ≡ segmentsAfter (quantified (now (file .entry)) (length (now («plant_table» .entry))) (length (now («segment_table» .entry)))) (now («segment_table» .entry)) ⌝ }
+    ensures { λ r. ⌜ Promised (now (file .entry)) (now («plant_table» .entry)) (now («segment_table» .entry)) r (now («plant_table» .exit)) (now («segment_table» .exit)) ⌝ }
 {
     let reading = read(file);
     let answer = reading.answer;

@@ -1,8 +1,8 @@
 // The period: its accounts and its answer (01, "The equations, made exact").
 //
 // The call reads a file through the layer below, adds up what its lines emit, works the segments in
-// rising number, and writes the rows. What each step has to come to is said by the definitions in
-// specs/; the promise of the call is an equation with the last of them.
+// rising number, and writes the rows. What each step has to come to is said by the definitions of the
+// crate `accounts`; the promise of the call is an equation with the last of them.
 mod arithmetic;
 pub mod call;
 mod emissions;

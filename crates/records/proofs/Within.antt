@@ -14,6 +14,8 @@ use Rattle.number.specs.Groups.{largest}
 use Rattle.number.specs.Reading.{Answer, reading}
 use Rattle.number.specs.Reading.Answer.{number as oneNumber, fault as oneFault}
 use Rattle.number.proofs.Laws.{size}
+use Rattle.records.specs.declared.segment.Segment.{Segment}
+use Rattle.records.specs.declared.line.Line.{Line}
 use Rattle.records.specs.Ranges.{within}
 use Rattle.records.specs.Plants.{mostPlants, millionths}
 use Rattle.records.specs.Segments.{mostSegments, kindAllowed, nextAllowed, pipeline, intermediateStorage, store}
@@ -22,7 +24,7 @@ use Rattle.records.specs.Lines.{mostLines, ownerAllowed, largestFactor}
 use Rattle.records.specs.Run.{Run, over, fault, number, starting, runOf, run}
 use Rattle.records.specs.Fields.{Reader, return, needs, _>>=_, each, Read, read, refused, reads}
 use Rattle.records.specs.Periods.{Period, Header, header, plant, segment, line, records, period, ended, periodFile}
-use Rattle.records.specs.Within.{Each, PlantWithin, SegmentWithin, LineWithin, Within}
+use Rattle.records.specs.Within.{Each, PlantWithin, SegmentWithin, KindWithin, LineWithin, ClassWithin, Within}
 use Rattle.records.proofs.Ranges.{at-most, next-after, next-none, owner-plant, owner-segment}
 
 -- ---- the record at a place of a list, of which each has a property
@@ -132,6 +134,18 @@ next-is segments own kind next k h = by-kind (decLe kind intermediateStorage)
         let last : kind ≡ store = omega (arith, at-most pipeline store kind k) in
         inl (eqb-true next 0 (sym (next-none segments own kind next last) ∙ h))
 
+-- and the kind, where there is none
+pub kind-without-next :
+    (segments own : ℕ) (segment : Segment) → KindWithin segments own segment → segment .next ≡ 0 → segment .kind ≡ store
+kind-without-next segments own segment within none = by-kind (decLe (segment .kind) intermediateStorage)
+  where
+    by-kind : Dec (segment .kind ≤ intermediateStorage) → segment .kind ≡ store
+    by-kind (yes p) =
+        let from = at-least pipeline store (segment .kind) (within .kind) in
+        let next = sym (next-after segments own (segment .kind) (segment .next) from p) ∙ within .next in
+        absurd (omega (arith, at-least (suc own) segments (segment .next) next, none))
+    by-kind (no p) = omega (arith, at-most pipeline store (segment .kind) (within .kind))
+
 -- an owner of either kind has a number
 some-owner : (plants segments ownerKind owner : ℕ) → ownerKind ≤ segmentOwner → ownerAllowed plants segments ownerKind owner ≡ true → 1 ≤ owner
 some-owner plants segments ownerKind owner k h = by-kind (decLe ownerKind plantOwner)
@@ -171,25 +185,36 @@ plant-within segments own =
       fraction = leb-true fraction millionths m;
     }))))
 
-segment-within : (segments own : ℕ) → Gives (SegmentWithin segments own) (segment segments own)
+-- a segment, with its kind
+abbrev SegmentRead : (segments own : ℕ) → Segment → Type 0
+SegmentRead segments own one = SegmentWithin segments own one × KindWithin segments own one
+
+segment-within : (segments own : ℕ) → Gives (SegmentRead segments own) (segment segments own)
 unfolding segment
 segment-within segments own =
     goes (λ kind _ k. goes (λ outflow small _. goes (λ next _ n.
-    done (record { outflow = small; next = next-is segments own kind next k n }))))
+    done (record { outflow = small; next = next-is segments own kind next k n }, record { kind = k; next = n }))))
 
-line-within : (plants segments own : ℕ) → Gives (LineWithin plants segments own) (line plants segments)
+-- a line, with its class
+abbrev LineRead : (plants segments own : ℕ) → Line → Type 0
+LineRead plants segments own one = LineWithin plants segments own one × ClassWithin own one
+
+line-within : (plants segments own : ℕ) → Gives (LineRead plants segments own) (line plants segments)
 unfolding line
 line-within plants segments own =
-    goes (λ ownerKind _ k. goes (λ owner _ o. goes (λ class _ _. goes (λ quantity small _. goes (λ factor _ f.
+    goes (λ ownerKind _ k. goes (λ owner _ o. goes (λ class _ c. goes (λ quantity small _. goes (λ factor _ f.
     let kind-is : ownerKind ≤ segmentOwner = leb-true ownerKind segmentOwner k in
-    done (record {
-      owner-kind = kind-is;
-      some-owner = some-owner plants segments ownerKind owner kind-is o;
-      plant = λ is. at-most 1 plants owner (sym (owner-plant plants segments ownerKind owner is) ∙ o);
-      segment = λ is. at-most 1 segments owner (sym (owner-segment plants segments ownerKind owner is) ∙ o);
-      quantity = small;
-      factor = leb-true factor largestFactor f;
-    }))))))
+    done (
+      record {
+        owner-kind = kind-is;
+        some-owner = some-owner plants segments ownerKind owner kind-is o;
+        plant = λ is. at-most 1 plants owner (sym (owner-plant plants segments ownerKind owner is) ∙ o);
+        segment = λ is. at-most 1 segments owner (sym (owner-segment plants segments ownerKind owner is) ∙ o);
+        quantity = small;
+        factor = leb-true factor largestFactor f;
+      },
+      c,
+    ))))))
 
 -- ---- the whole period: as many records of each kind as the header says
 records-within : (h : Header) → HeaderWithin h → Gives Within (records h)
@@ -205,8 +230,10 @@ records-within h counts =
       most-segments = rw (s .0) (counts .most-segments);
       most-lines = rw (l .0) (counts .most-lines);
       plants = rw (s .0) (p .1);
-      segments = rw (s .0) (s .1);
-      lines = rw (p .0, s .0) (l .1);
+      segments = rw (s .0) (each-on (λ own one both. both .0) 1 segments (s .1));
+      kinds = rw (s .0) (each-on (λ own one both. both .1) 1 segments (s .1));
+      lines = rw (p .0, s .0) (each-on (λ own one both. both .0) 1 lines (l .1));
+      classes = each-on (λ own one both. both .1) 1 lines (l .1);
     }))))
 
 period-within : Gives Within period

@@ -1,4 +1,4 @@
--- "the file is read front to back. Each number is tested for 1, 2 and 3 as its bytes come, then for its own field."
+-- "the file is read front to back. Each number is tested for 1, 2 and 3 as its bytes come (..), then for its own field."
 use Prim.Native.Nat.{ℕ, zero, suc}
 use mathlib.Core.Bool.{Bool, cond}
 use mathlib.Core.List.{List, [], _∷_}

@@ -27,12 +27,12 @@ told c =
 plants :
     (c : tie.After-quantify) →
     Back (plantsOf (told c)) mostPlantNumbers (c .before .before .before .before .room .result) (c .quantify .last .1 .0) (c .quantify .result .«plant_numbers»)
-plants c = plants-back (omega arith) (c .quantify .kept .1 .0) (told c) (c .quantify .ensures .1 .0) (c .quantify .ensures .0 .plants)
+plants c = plants-back (omega arith) (c .quantify .kept .1 .0) (told c) (c .quantify .ensures .plants-after) (c .quantify .ensures .answers .plants)
 
 segments :
     (c : tie.After-quantify) →
     Back (segmentsOf (told c)) mostSegmentNumbers (c .before .before .before .room2 .result) (c .quantify .last .1 .1 .0) (c .quantify .result .«segment_numbers»)
-segments c = segments-back (omega arith) (c .quantify .kept .1 .1 .0) (told c) (c .quantify .ensures .1 .1) (c .quantify .ensures .0 .segments)
+segments c = segments-back (omega arith) (c .quantify .kept .1 .1 .0) (told c) (c .quantify .ensures .segments-after) (c .quantify .ensures .answers .segments)
 
 -- ---- the needs
 room-requires : tie.Need-room-requires
@@ -90,18 +90,21 @@ returns c =
     let a = q .before .before .before .before .before .before .before .before .args in
     let same : told q ≡ answerTo (now (a .file)) (now (a .plants)) (now (a .segments)) =
     same-answer (now (a .file)) (now (a .plants)) (now (a .segments)) _ _ (q .before .before .before .before .room .ensures) (q .before .before .before .room2 .ensures) in
-    let verdict = q .quantify .ensures .0 .verdict ∙ ap verdictOf same in
-    let plants-are =
-    c .before .before .before .before .before .before .before .before .before .write-numbers .ensures
-    ∙ bytes-after (plants q) (now (a .plants))
-    ∙ plant-bytes (told q) (now (a .plants))
-    ∙ ap (λ (x : Answer). plantBytesAfter x (now (a .plants))) same in
-    let segments-are =
-    c .before .before .before .before .write-numbers2 .ensures
-    ∙ bytes-after (segments q) (now (a .segments))
-    ∙ segment-bytes (told q) (now (a .segments))
-    ∙ ap (λ (x : Answer). segmentBytesAfter x (now (a .segments))) same in
-    (c .refusal .ensures ∙ ap numberOf verdict, (c .before .place .ensures ∙ ap placeOf verdict, (plants-are, segments-are)))
+    let verdict = q .quantify .ensures .answers .verdict ∙ ap verdictOf same in
+    record {
+      result = c .refusal .ensures ∙ ap numberOf verdict;
+      place = c .before .place .ensures ∙ ap placeOf verdict;
+      plants-after =
+          c .before .before .before .before .before .before .before .before .before .write-numbers .ensures
+          ∙ bytes-after (plants q) (now (a .plants))
+          ∙ plant-bytes (told q) (now (a .plants))
+          ∙ ap (λ (x : Answer). plantBytesAfter x (now (a .plants))) same;
+      segments-after =
+          c .before .before .before .before .write-numbers2 .ensures
+          ∙ bytes-after (segments q) (now (a .segments))
+          ∙ segment-bytes (told q) (now (a .segments))
+          ∙ ap (λ (x : Answer). segmentBytesAfter x (now (a .segments))) same;
+    }
 
 pub steeplecuff-quantify-spec : {M : Type 1} → statement M
 steeplecuff-quantify-spec =

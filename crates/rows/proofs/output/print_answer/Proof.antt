@@ -7,10 +7,10 @@ use Rattle.rows.proofs.output.print_answer.Tie as tie
 
 -- ---- what is known when the call has answered
 plants : (c : tie.After-quantify) → Counts (c .quantify .result .«plant_numbers») (c .quantify .last .1 .0)
-plants c = plants-within _ _ _ _ (c .quantify .ensures .0) (c .quantify .ensures .1 .0)
+plants c = plants-within (c .quantify .ensures)
 
 segments : (c : tie.After-quantify) → Counts (c .quantify .result .«segment_numbers») (c .quantify .last .1 .1 .0)
-segments c = segments-within _ _ _ _ (c .quantify .ensures .0) (c .quantify .ensures .1 .1)
+segments c = segments-within (c .quantify .ensures)
 
 -- ---- the needs
 slice-aggregate-quantify : tie.Need-slice-aggregate-quantify
