@@ -18,6 +18,8 @@ use numbers::suites::number_suites;
 use periods::accounts::{account, printed, Tables};
 use periods::historian::call::HistorianCall;
 use periods::historian::historian_suites;
+use periods::inspection::inspection_suites;
+use periods::inspection::page::{inspect, End};
 use periods::printed::printed_suites;
 use periods::question::PeriodFile;
 use periods::seeded::period_cases::period_cases;
@@ -44,8 +46,14 @@ usage: reference answer numbers|readings|historian
        reference compare rows -- PROGRAM [ARGS..]
            starts PROGRAM for each period file and compares the rows or the refusal it
            prints with its own
+       reference compare inspections -- PROGRAM [ARGS..]
+           starts PROGRAM for each period file and compares the inspector's page it
+           prints with its own
        reference rows
            reads a period file on standard input, writes its rows or its refusal
+       reference inspect
+           reads a period file on standard input, writes the inspector's page: a line
+           for each number, and one for how it ends
        reference cases periods SEED COUNT
            writes COUNT cases of whole periods with their answers, one line each;
            SEED and COUNT are whole numbers, and the paper's own cases come first";
@@ -59,7 +67,9 @@ enum Task {
     CompareReadings(Program),
     CompareHistorian(Program),
     CompareRows(Program),
+    CompareInspections(Program),
     Rows,
+    Inspect,
     CasesOfPeriods { seed: u64, count: usize },
 }
 
@@ -79,7 +89,11 @@ fn main() -> ExitCode {
             compare(&historian_suites(), &program, compare_in_one_run)
         }
         Some(Task::CompareRows(program)) => compare(&printed_suites(), &program, compare_starts),
+        Some(Task::CompareInspections(program)) => {
+            compare(&inspection_suites(), &program, compare_starts)
+        }
         Some(Task::Rows) => rows(),
+        Some(Task::Inspect) => inspection(),
         Some(Task::CasesOfPeriods { seed, count }) => cases_of_periods(seed, count),
         None => Err(USAGE.to_string()),
     };
@@ -108,6 +122,7 @@ fn task_of(arguments: &[OsString]) -> Option<Task> {
             task_to_compare(what, program)
         }
         (["rows"], _) => Some(Task::Rows),
+        (["inspect"], _) => Some(Task::Inspect),
         (["cases", "periods", seed, count], _) => Some(Task::CasesOfPeriods {
             seed: seed.parse().ok()?,
             count: count.parse().ok()?,
@@ -123,6 +138,7 @@ fn task_to_compare(what: &str, program: Program) -> Option<Task> {
         "readings" => Some(Task::CompareReadings(program)),
         "historian" => Some(Task::CompareHistorian(program)),
         "rows" => Some(Task::CompareRows(program)),
+        "inspections" => Some(Task::CompareInspections(program)),
         _ => None,
     }
 }
@@ -159,6 +175,18 @@ fn rows() -> Result<ExitCode, String> {
     match accounted {
         Ok(_) => Ok(ExitCode::SUCCESS),
         Err(_) => Ok(ExitCode::from(REFUSED)),
+    }
+}
+
+/// Writes the inspector's page of the period file on standard input. A file that is cut is not
+/// refused, but it was not walked to its end either: the work could not be done.
+fn inspection() -> Result<ExitCode, String> {
+    let page = inspect(&input()?);
+    output(page.to_string().as_bytes())?;
+    match page.end {
+        End::OfFile { .. } => Ok(ExitCode::SUCCESS),
+        End::Refused(_) => Ok(ExitCode::from(REFUSED)),
+        End::Cut { .. } => Ok(ExitCode::from(NOT_DONE)),
     }
 }
 

@@ -1,4 +1,5 @@
-//! What can be asked of a program: many questions in one run, one answer for each.
+//! What can be asked of a program: many questions in one run, one answer for each, or what it
+//! prints when it is started for one file.
 
 /// A question that is put to a program as a frame of bytes and has one right answer.
 pub trait Question: Sized {
@@ -34,6 +35,24 @@ pub trait Answer {
 
     /// What was expected and what came instead, in words.
     fn difference(&self, came: &[u8]) -> String;
+}
+
+/// A file for which a program is started, and what must be printed then.
+pub trait FileToPrint {
+    /// The labels of all texts that can be printed, in the order of the report.
+    const LABELS: &'static [&'static str];
+
+    /// The file that is put to the program.
+    fn file(&self) -> &[u8];
+
+    /// The text that must be printed.
+    fn printed(&self) -> String;
+
+    /// What such a text is counted as.
+    fn label_of(printed: &str) -> String;
+
+    /// The file in words.
+    fn in_words(&self) -> String;
 }
 
 /// Cases that are compared and counted together.

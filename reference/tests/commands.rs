@@ -114,8 +114,10 @@ fn program_agrees_with_itself() {
         let output = run(&["compare", what, "--", REFERENCE, "answer", what], &[]);
         assert_passed(&output, suites);
     }
-    let output = run(&["compare", "rows", "--", REFERENCE, "rows"], &[]);
-    assert_passed(&output, 5);
+    for (what, command, suites) in [("rows", "rows", 5), ("inspections", "inspect", 10)] {
+        let output = run(&["compare", what, "--", REFERENCE, command], &[]);
+        assert_passed(&output, suites);
+    }
 }
 
 /// Asserts that so many suites passed and none failed.
@@ -157,6 +159,17 @@ fn program_that_prints_on_standard_error_fails() {
 }
 
 #[test]
+fn program_that_prints_other_than_the_page_fails() {
+    let other = ["compare", "inspections", "--", REFERENCE, "rows"];
+    let output = run(&other, &[]);
+    let report = text(&output.stdout);
+    assert!(report.contains("line 1: expected \"0 0 1 edition\", came \"P 1 10000 9931 "));
+    assert!(report.contains("case 1: 65535 bytes [01 01 01 00 "));
+    assert_eq!(report.lines().last(), Some("0 passed, 10 failed"));
+    assert_eq!(output.status.code(), Some(1));
+}
+
+#[test]
 fn rows_of_an_accepted_file_are_written() {
     let output = run(&["rows"], &WHOLE_PERIOD);
     assert_eq!(
@@ -177,6 +190,41 @@ fn refusal_of_a_file_is_written() {
         assert_eq!(text(&output.stdout), refusal);
         assert_eq!(output.status.code(), Some(1));
     }
+}
+
+#[test]
+fn page_of_a_file_is_written_to_its_end() {
+    let output = run(&["inspect"], &WHOLE_PERIOD);
+    let page = text(&output.stdout);
+    assert!(page.starts_with("0 0 1 edition\n1 1 2 plants\n2 2 2 segments\n3 3 2 lines\n"));
+    assert!(page.contains("\n5 6 1 plant 1 first segment\n"));
+    assert!(page.ends_with("\n25 35 2650 line 2 factor\nE 26 37\n"));
+    assert_eq!(page.lines().count(), 27);
+    assert_eq!(text(&output.stderr), "");
+    assert_eq!(output.status.code(), Some(0));
+}
+
+#[test]
+fn page_of_a_file_is_written_up_to_its_fault() {
+    let faults = [
+        (&[][..], "0 0 - edition\nR 1 0\n"),
+        (&[0x02, 0x80, 0x00], "0 0 2 edition\n1 1 - plants\nR 2 1\n"),
+        (&[0x80; 6], "0 0 - edition\nR 3 0\n"),
+    ];
+    for (file, page) in faults {
+        let output = run(&["inspect"], file);
+        assert_eq!(text(&output.stdout), page);
+        assert_eq!(output.status.code(), Some(1));
+    }
+}
+
+#[test]
+fn page_of_a_file_that_is_cut_says_so() {
+    let output = run(&["inspect"], &[0x01; 65_536]);
+    let page = text(&output.stdout);
+    assert!(page.ends_with("\n65534 65534 1 after the last number\nC 65535 65535\n"));
+    assert_eq!(text(&output.stderr), "");
+    assert_eq!(output.status.code(), Some(2));
 }
 
 #[test]
@@ -219,7 +267,7 @@ fn program_that_cannot_start_is_said_in_one_line() {
 
 #[test]
 fn bad_usage_prints_how_to_call() {
-    let bad: [&[&str]; 18] = [
+    let bad: [&[&str]; 23] = [
         &[],
         &["answer"],
         &["answer", "numbers", "more"],
@@ -231,8 +279,13 @@ fn bad_usage_prints_how_to_call() {
         &["compare", "historian"],
         &["compare", "rows", "--"],
         &["compare", "rows", REFERENCE, "rows"],
+        &["compare", "inspections"],
+        &["compare", "inspections", "--"],
+        &["compare", "inspect", "--", REFERENCE, "inspect"],
         &["answer", "rows"],
+        &["answer", "inspections"],
         &["rows", "more"],
+        &["inspect", "more"],
         &["cases"],
         &["cases", "periods", "1"],
         &["cases", "periods", "one", "2"],
@@ -243,5 +296,22 @@ fn bad_usage_prints_how_to_call() {
         let output = run(arguments, &[]);
         assert!(text(&output.stderr).starts_with("usage: "), "{arguments:?}");
         assert_eq!(output.status.code(), Some(2), "{arguments:?}");
+    }
+}
+
+#[test]
+fn usage_names_every_command() {
+    let output = run(&[], &[]);
+    let usage = text(&output.stderr);
+    for command in [
+        "reference answer numbers|readings|historian\n",
+        "reference compare numbers|readings|historian -- PROGRAM [ARGS..]\n",
+        "reference compare rows -- PROGRAM [ARGS..]\n",
+        "reference compare inspections -- PROGRAM [ARGS..]\n",
+        "reference rows\n",
+        "reference inspect\n",
+        "reference cases periods SEED COUNT\n",
+    ] {
+        assert!(usage.contains(command), "{command}");
     }
 }

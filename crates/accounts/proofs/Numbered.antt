@@ -1,89 +1,114 @@
--- No refusal has the number 0, which tells a C caller that its file is accepted.
-use Prim.Native.Nat.{ℕ, zero, suc, _<_}
+-- The numbers of refusal. None is 0, which tells a C caller that its file is accepted; and a refusal up to 9 is that of reading, since the tests
+-- that come after reading refuse with 10 or more.
+use Prim.Native.Nat.{ℕ, zero, suc, _≤_, _<_}
 use mathlib.Core.Path.{_≡_}
 use mathlib.Core.List.{List, [], _∷_, _++_}
 use native.Mathlib.Omega.{arith}
+use lib.ListN.{length}
 use Rattle.records.specs.declared.line.Line.{Line}
+use Rattle.records.specs.Refusals.{bytesAfter, tooManyGrams}
+use Rattle.records.specs.Fields.{Read, read, refused}
+use Rattle.records.specs.Periods.{Period}
 use Rattle.accounts.specs.Accounts.{Account}
 use Rattle.accounts.specs.Order.{refusal, Test, FirstFails, here, later, lineTests, segmentTests, tableTests}
-use Rattle.accounts.specs.Quantified.{accountsOf, quantified}
+use Rattle.accounts.specs.Quantified.{accountsOf, rows, judged, afterReading, quantified}
 use Rattle.accounts.specs.Reasons.{plantCount, segmentCount, lineCount, periodAt, headerTests, plantTests, segmentFieldTests, lineFieldTests, endTest, testsOfEach, readingTests, allTests}
+use Rattle.accounts.proofs.Testing.{first-fails}
 use Rattle.accounts.proofs.Order.{refused-exactly}
 
--- no test has the number 0
-unfoldable Numbered : List Test → Type 0
-Numbered [] = Unit {0}
-Numbered (test ∷ tests) = (0 < test .number) × Numbered tests
+-- ---- tests of which none has a number below the least
+unfoldable FromLeast : ℕ → List Test → Type 0
+FromLeast least [] = Unit {0}
+FromLeast least (test ∷ tests) = (least ≤ test .number) × FromLeast least tests
 
--- so nor has the first that fails
-first-numbered : {tests : List Test} {number place : ℕ} → FirstFails tests number place → Numbered tests → 0 < number
-unfolding Numbered
-first-numbered (here h) each = each .0
-first-numbered (later h more) each = first-numbered more (each .1)
+-- nor has the first that fails
+first-from : {least number place : ℕ} {tests : List Test} → FirstFails tests number place → FromLeast least tests → least ≤ number
+unfolding FromLeast
+first-from (here h) each = each .0
+first-from (later h more) each = first-from more (each .1)
 
--- ---- tests one after another
-both : (tests rest : List Test) → Numbered tests → Numbered rest → Numbered (tests ++ rest)
-unfolding Numbered
-both [] rest each others = others
-both (test ∷ tests) rest each others = (each .0, both tests rest (each .1) others)
+module _ (least : ℕ) where
+  -- tests one after another
+  both : (tests rest : List Test) → FromLeast least tests → FromLeast least rest → FromLeast least (tests ++ rest)
+  unfolding FromLeast
+  both [] rest each others = others
+  both (test ∷ tests) rest each others = (each .0, both tests rest (each .1) others)
 
-of-each : (tests : ℕ → List Test) → ((index : ℕ) → Numbered (tests index)) → (from count : ℕ) → Numbered (testsOfEach tests from count)
-unfolding Numbered testsOfEach
-of-each tests each from zero = tt
-of-each tests each from (suc count) = both (tests from) (testsOfEach tests (suc from) count) (each from) (of-each tests each (suc from) count)
+  of-each :
+      (tests : ℕ → List Test) → ((index : ℕ) → FromLeast least (tests index)) → (from count : ℕ) → FromLeast least (testsOfEach tests from count)
+  unfolding FromLeast testsOfEach
+  of-each tests each from zero = tt
+  of-each tests each from (suc count) = both (tests from) (testsOfEach tests (suc from) count) (each from) (of-each tests each (suc from) count)
 
--- 10
-of-lines : (lines : List Line) (done : ℕ) (left : List Line) → Numbered (lineTests lines done left)
-unfolding Numbered lineTests
-of-lines lines done [] = tt
-of-lines lines done (line ∷ left) = (omega arith, of-lines lines (suc done) left)
+  -- ---- the tests that come after reading
+  module _ (few : least ≤ tooManyGrams) where
+    -- 10
+    of-lines : (lines : List Line) (done : ℕ) (left : List Line) → FromLeast least (lineTests lines done left)
+    unfolding FromLeast lineTests
+    of-lines lines done [] = tt
+    of-lines lines done (line ∷ left) = (few, of-lines lines (suc done) left)
 
--- 11, 12 and 13
-of-segments : (accounts : List Account) → Numbered (segmentTests accounts)
-unfolding Numbered segmentTests
-of-segments [] = tt
-of-segments (a ∷ accounts) = (omega arith, (omega arith, (omega arith, of-segments accounts)))
+    -- 11, 12 and 13
+    of-segments : (accounts : List Account) → FromLeast least (segmentTests accounts)
+    unfolding FromLeast segmentTests
+    of-segments [] = tt
+    of-segments (a ∷ accounts) = (omega (arith, few), (omega (arith, few), (omega (arith, few), of-segments accounts)))
 
--- ---- all tests of a file
+    -- and then 14 and 15
+    after-reading :
+        (lines : List Line) (accounts : List Account) (plants segments plantTable segmentTable : ℕ) →
+        FromLeast least (lineTests lines 0 lines ++ (segmentTests accounts ++ tableTests plants segments plantTable segmentTable))
+    unfolding FromLeast
+    after-reading lines accounts plants segments plantTable segmentTable =
+        let tables = tableTests plants segments plantTable segmentTable in
+        both (lineTests lines 0 lines) (segmentTests accounts ++ tables) (of-lines lines 0 lines)
+        (both (segmentTests accounts) tables (of-segments accounts) (omega (arith, few), (omega (arith, few), tt)))
+
+-- ---- all tests of a file: none has the number 0
 module _ (file : List ℕ) where
-  of-header : Numbered (headerTests file)
-  unfolding Numbered headerTests
+  of-header : FromLeast 1 (headerTests file)
+  unfolding FromLeast headerTests
   of-header = omega arith
 
-  of-plant : (index : ℕ) → Numbered (plantTests file index)
-  unfolding Numbered plantTests
+  of-plant : (index : ℕ) → FromLeast 1 (plantTests file index)
+  unfolding FromLeast plantTests
   of-plant index = omega arith
 
-  of-segment : (index : ℕ) → Numbered (segmentFieldTests file index)
-  unfolding Numbered segmentFieldTests
+  of-segment : (index : ℕ) → FromLeast 1 (segmentFieldTests file index)
+  unfolding FromLeast segmentFieldTests
   of-segment index = omega arith
 
-  of-line : (index : ℕ) → Numbered (lineFieldTests file index)
-  unfolding Numbered lineFieldTests
+  of-line : (index : ℕ) → FromLeast 1 (lineFieldTests file index)
+  unfolding FromLeast lineFieldTests
   of-line index = omega arith
 
-  of-reading : Numbered (readingTests file)
-  unfolding Numbered readingTests
+  of-reading : FromLeast 1 (readingTests file)
+  unfolding FromLeast readingTests
   of-reading =
       let plants = testsOfEach (plantTests file) 0 (plantCount file) in
       let segments = testsOfEach (segmentFieldTests file) 0 (segmentCount file) in
       let lines = testsOfEach (lineFieldTests file) 0 (lineCount file) in
-      both (headerTests file) (plants ++ (segments ++ (lines ++ endTest file ∷ []))) of-header
-      (both plants (segments ++ (lines ++ endTest file ∷ [])) (of-each (plantTests file) of-plant 0 (plantCount file))
-      (both segments (lines ++ endTest file ∷ []) (of-each (segmentFieldTests file) of-segment 0 (segmentCount file))
-      (both lines (endTest file ∷ []) (of-each (lineFieldTests file) of-line 0 (lineCount file)) (omega arith))))
-
-  of-all : (plantTable segmentTable : ℕ) → Numbered (allTests file plantTable segmentTable)
-  unfolding Numbered allTests
-  of-all plantTable segmentTable =
-      let lines = lineTests (periodAt file .lines) 0 (periodAt file .lines) in
-      let segments = segmentTests (accountsOf (periodAt file)) in
-      let tables = tableTests (plantCount file) (segmentCount file) plantTable segmentTable in
-      both (readingTests file) (lines ++ (segments ++ tables)) of-reading
-      (both lines (segments ++ tables) (of-lines (periodAt file .lines) 0 (periodAt file .lines))
-      (both segments tables (of-segments (accountsOf (periodAt file))) (omega arith)))
+      both 1 (headerTests file) (plants ++ (segments ++ (lines ++ endTest file ∷ []))) of-header
+      (both 1 plants (segments ++ (lines ++ endTest file ∷ [])) (of-each 1 (plantTests file) of-plant 0 (plantCount file))
+      (both 1 segments (lines ++ endTest file ∷ []) (of-each 1 (segmentFieldTests file) of-segment 0 (segmentCount file))
+      (both 1 lines (endTest file ∷ []) (of-each 1 (lineFieldTests file) of-line 0 (lineCount file)) (omega arith))))
 
   pub refusal-numbered :
       (plantTable segmentTable number place : ℕ) → quantified file plantTable segmentTable ≡ refusal number place → 0 < number
+  unfolding allTests
   refusal-numbered plantTable segmentTable number place e =
-      first-numbered (refused-exactly file plantTable segmentTable number place .0 e) (of-all plantTable segmentTable)
+      first-from (refused-exactly file plantTable segmentTable number place .0 e)
+      (both 1 (readingTests file) _ of-reading
+      (after-reading 1 (omega arith) (periodAt file .lines) (accountsOf (periodAt file)) (plantCount file) (segmentCount file) plantTable segmentTable))
+
+-- ---- a refusal up to 9 is that of reading
+pub from-reading :
+    (plantTable segmentTable number place : ℕ) (outcome : Read Period) → afterReading outcome plantTable segmentTable ≡ refusal number place →
+    number ≤ bytesAfter → outcome ≡ refused number place
+unfolding judged rows
+from-reading plantTable segmentTable number place (refused found at) e early = cc
+from-reading plantTable segmentTable number place (read period at rest) e early =
+    let late =
+    first-from (first-fails _ number place _ _ e)
+    (after-reading tooManyGrams (omega arith) (period .lines) (accountsOf period) (length (period .plants)) (length (period .segments)) plantTable segmentTable) in
+    absurd (omega (arith, early, late))

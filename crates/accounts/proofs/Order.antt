@@ -9,6 +9,7 @@ use native.Mathlib.Decide.{decLe}
 use native.Mathlib.Omega.{arith}
 use lib.ListN.{length}
 use borrow.Author.Tests.{lt-ltb, le-ltb}
+use Rattle.number.specs.Counting.{startOf}
 use Rattle.records.specs.Run.{over}
 use Rattle.records.specs.Fields.{Read, read, refused}
 use Rattle.records.specs.Periods.{Period, period, ended, periodFile}
@@ -18,7 +19,7 @@ use Rattle.records.proofs.Whole.{more-left, none-left}
 use Rattle.accounts.specs.Order.{Answer, refusal, accepted, Test, tested, FirstFails, NoneFails, lineTests, segmentTests, tableTests}
 use Rattle.accounts.specs.Quantified.{accountsOf, rows, judged, afterReading, quantified}
 use Rattle.accounts.specs.Accepted.{Accepted, held}
-use Rattle.accounts.specs.Reasons.{startOf, plantCount, segmentCount, numberCount, listed, periodAt, readingTests, endTest, allTests}
+use Rattle.accounts.specs.Reasons.{plantCount, segmentCount, numberCount, listed, periodAt, readingTests, endTest, allTests}
 use Rattle.accounts.proofs.Testing.{refused-not-accepted, first-answers, first-fails, none-answers, none-fails}
 use Rattle.accounts.proofs.Refused.{reading-refuses}
 use Rattle.accounts.proofs.Places.{Found, passes, fails, period-found}

@@ -7,6 +7,7 @@ use native.Mathlib.Omega.{arith}
 use lib.ListN.{drop}
 use Rattle.number.specs.Reading.{Answer as NumberAnswer}
 use Rattle.number.specs.Reading.Answer.{number as oneNumber, fault as oneFault}
+use Rattle.number.specs.Counting.{startOf, numberAt, valueIn, valueAt}
 use Rattle.number.proofs.Laws.{faults}
 use Rattle.records.specs.Ranges.{anyAmount}
 use Rattle.records.specs.Run.{run}
@@ -14,7 +15,7 @@ use Rattle.records.specs.Fields.{Reader, return, needs, _>>=_, each, Read, read
 use Rattle.records.specs.Periods.{Header, header, plant, segment, line, records, period}
 use Rattle.records.proofs.Fields.{Comes, done as all-read, goes, fails as not-allowed, stops}
 use Rattle.accounts.specs.Order.{Answer, refusal, Test, tested}
-use Rattle.accounts.specs.Reasons.{startOf, numberAt, valueIn, valueAt, plantCount, segmentCount, lineCount, plantPlace, segmentPlace, linePlace, numberCount, plantAt, segmentAt, lineAt, listed, periodAt, numberTests, fieldTests, headerTests, plantTests, segmentFieldTests, lineFieldTests, endTest, testsOfEach, readingTests}
+use Rattle.accounts.specs.Reasons.{plantCount, segmentCount, lineCount, plantPlace, segmentPlace, linePlace, numberCount, plantAt, segmentAt, lineAt, listed, periodAt, numberTests, fieldTests, headerTests, plantTests, segmentFieldTests, lineFieldTests, endTest, testsOfEach, readingTests}
 
 module _ (file : List ℕ) where
   -- ---- a fault is found by its own test

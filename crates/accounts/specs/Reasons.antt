@@ -6,8 +6,9 @@ use mathlib.Core.Bool.{Bool, false, not}
 use mathlib.Core.List.{List, [], _∷_, _++_}
 use lib.ListN.{length}
 use lib.Dec.{ltb, eqb}
-use Rattle.number.specs.Reading.{Answer, readAt, ends, notShortest, tooLarge}
+use Rattle.number.specs.Reading.{Answer, ends, notShortest, tooLarge}
 use Rattle.number.specs.Reading.Answer.{number as oneNumber, fault as oneFault}
+use Rattle.number.specs.Counting.{startOf, numberAt, valueAt}
 use Rattle.records.specs.declared.plant.Plant.{Plant}
 use Rattle.records.specs.declared.segment.Segment.{Segment}
 use Rattle.records.specs.declared.line.Line.{Line}
@@ -19,28 +20,6 @@ use Rattle.records.specs.Refusals.{wrongEdition, wrongCount, wrongPlant, wrongS
 use Rattle.records.specs.Periods.{Period, edition, headerNumbers}
 use Rattle.accounts.specs.Order.{Test, lineTests, segmentTests, tableTests}
 use Rattle.accounts.specs.Quantified.{accountsOf}
-
--- ---- the numbers of a file, counted from 0
--- where the number ends that was looked for at a byte; a number that is not there has no end
-abbrev pub endOf : ℕ → Answer → ℕ
-endOf start (oneNumber value next) = next
-endOf start (oneFault refusal) = start
-
--- the byte where number k starts: where the one before ends
-unfoldable pub startOf : List ℕ → ℕ → ℕ
-startOf file zero = 0
-startOf file (suc k) = endOf (startOf file k) (readAt file (startOf file k))
-
--- number k: its value, or its fault
-abbrev pub numberAt : List ℕ → ℕ → Answer
-numberAt file k = readAt file (startOf file k)
-
-abbrev pub valueIn : Answer → ℕ
-valueIn (oneNumber value next) = value
-valueIn (oneFault refusal) = 0
-
-unfoldable pub valueAt : List ℕ → ℕ → ℕ
-valueAt file k = valueIn (numberAt file k)
 
 -- ---- where the records stand: a header, and then P plants, S segments and L lines
 abbrev pub plantCount : List ℕ → ℕ

@@ -9,13 +9,11 @@ use libc::STDERR_FILENO;
 use libc::STDIN_FILENO;
 use libc::STDOUT_FILENO;
 use records::Answer;
+use records::Header;
 use records::Line;
 use records::Plant;
 use records::Reading;
 use records::Segment;
-
-// The edition of the files that are read.
-const EDITION: u64 = 1;
 
 // The bytes of the count before a file.
 const COUNT_BYTES: usize = 4;
@@ -82,7 +80,7 @@ fn print(reading: Reading) -> bool {
         return print_refusal(answer);
     };
     io::write_all(STDOUT_FILENO, b"A")
-        && print_number(EDITION)
+        && print_number(Header::EDITION)
         && print_number(reading.plant_count as u64)
         && print_number(reading.segment_count as u64)
         && print_number(reading.line_count as u64)

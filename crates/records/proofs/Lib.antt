@@ -3,12 +3,13 @@ mod Ranges
 mod Table
 mod Classes
 -- What a file's bytes are as a run of numbers, and how a run is read.
-mod Runs
+pub mod Runs
 pub mod Fields
 pub mod Verdicts
 mod Stages
 pub mod Whole
 mod WaysOut
+mod Headers
 -- What a file that was read holds, and how long it is.
 pub mod Within
 pub mod Longest

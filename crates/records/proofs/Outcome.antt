@@ -7,6 +7,7 @@ use lib.Dec.{eqb}
 use Rattle.number.specs.Reading.{ends, notShortest, tooLarge}
 use Rattle.records.specs.declared.answer.Answer.{Answer}
 use Rattle.records.specs.declared.answer.Answer.the-variants.{Accepted, Ends, NotShortest, TooLarge, Edition, Count, Plant, Segment, Line, BytesAfter, Grams, Inflow, Outflow, Emission, PlantTable, SegmentTable}
+use Rattle.records.specs.declared.header.Header.{Header}
 use Rattle.records.specs.declared.limits.Limits.{Limits}
 use Rattle.records.specs.declared.reading.Reading.{Reading}
 use Rattle.records.specs.declared.line.Line.{Line as LineRecord}
@@ -14,6 +15,7 @@ use Rattle.records.specs.declared.plant.Plant.{Plant as PlantRecord}
 use Rattle.records.specs.declared.segment.Segment.{Segment as SegmentRecord}
 use Rattle.records.specs.Refusals.{wrongEdition, wrongCount, wrongPlant, wrongSegment, wrongLine, bytesAfter, tooManyGrams, inflowTooLarge, outflowOverInflow, emissionWithoutInflow, plantTableShort}
 use Rattle.records.specs.Periods.{periodFile}
+use Rattle.records.specs.Headers.{headerOf}
 use Rattle.records.specs.Limits.{limits}
 use Rattle.records.specs.Answers.{Verdict, accepts, refuses, said, numberOf, placeOf}
 use Rattle.records.specs.Held.{Held}
@@ -94,3 +96,7 @@ one-place answer r s p q = p ∙ sym q
 -- `Limits::new`: so does its promise
 pub one-limits : (r s : Limits) → r ≡ limits → s ≡ limits → r ≡ s
 one-limits r s p q = p ∙ sym q
+
+-- `Header::of`: its promise gives the result itself
+pub one-header : (file : List ℕ) (r s : Header) → r ≡ headerOf file → s ≡ headerOf file → r ≡ s
+one-header file r s p q = p ∙ sym q

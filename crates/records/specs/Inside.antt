@@ -5,8 +5,8 @@ use mathlib.Core.List.{List}
 use lib.ListN.{length, take, drop, replicate}
 use Rattle.records.specs.declared.answer.Answer.{Answer}
 use Rattle.records.specs.declared.reading.Reading.{Reading}
-use Rattle.records.specs.declared.reading.header.Header.{Header}
-use Rattle.records.specs.declared.reading.header.Header.the-variants as Header
+use Rattle.records.specs.declared.reading.header.ReadHeader.{ReadHeader}
+use Rattle.records.specs.declared.reading.header.ReadHeader.the-variants as ReadHeader
 use Rattle.records.specs.declared.reading.plants.ReadPlant.{ReadPlant}
 use Rattle.records.specs.declared.reading.plants.ReadPlant.the-variants as ReadPlant
 use Rattle.records.specs.declared.reading.segments.ReadSegment.{ReadSegment}
@@ -38,13 +38,13 @@ abbrev pub announced : (plants segments lines : ℕ) → Periods.Header
 announced plants segments lines = record { plants = plants; segments = segments; lines = lines }
 
 -- What reading the header comes to, by the code's answer: its counts, each within its limit, or a refusal.
-abbrev pub headerRead : List ℕ → Header → Read Periods.Header → Type 0
-headerRead file (Header.Read plants segments lines next) outcome =
+abbrev pub headerRead : List ℕ → ReadHeader → Read Periods.Header → Type 0
+headerRead file (ReadHeader.Whole plants segments lines next) outcome =
     (outcome ≡ read (announced plants segments lines) Periods.headerNumbers (run (drop next file)))
     × (plants ≤ mostPlants)
     × (segments ≤ mostSegments)
     × (lines ≤ mostLines)
-headerRead file (Header.Refused answer) outcome = Refuses (said answer) outcome
+headerRead file (ReadHeader.Refused answer) outcome = Refuses (said answer) outcome
 
 -- What reading a record that starts at a place comes to: the record, the place after it and the run from there; or a refusal.
 abbrev pub plantRead : List ℕ → ℕ → ReadPlant → Read Plant → Type 0

@@ -11,6 +11,7 @@ pub mod Refusals
 pub mod Run
 pub mod Fields
 pub mod Periods
+pub mod Headers
 pub mod Within
 pub mod Longest
 -- the code's answers in these terms

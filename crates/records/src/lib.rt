@@ -4,6 +4,7 @@
 // tested, is said by the definitions in specs/; every promise here is an equation with one of them.
 pub mod answer;
 pub mod class;
+pub mod header;
 pub mod limits;
 pub mod line;
 pub mod plant;
@@ -12,6 +13,7 @@ pub mod segment;
 
 pub use crate::answer::Answer;
 pub use crate::class::Class;
+pub use crate::header::Header;
 pub use crate::limits::Limits;
 pub use crate::line::Line;
 pub use crate::plant::Plant;

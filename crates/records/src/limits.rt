@@ -2,9 +2,9 @@
 ghost use mathlib.Core.Path.{_≡_};
 ghost use Rattle.records.specs.Limits.{limits};
 use crate::class::Class;
+use crate::header::Header;
 use crate::line::Line;
 use crate::plant::Plant;
-use crate::reading::header::Header;
 use crate::segment::Segment;
 
 pub struct Limits {

@@ -20,9 +20,10 @@ mod plants;
 mod segments;
 
 use crate::answer::Answer;
+use crate::header::Header;
 use crate::line::Line;
 use crate::plant::Plant;
-use crate::reading::header::Header;
+use crate::reading::header::ReadHeader;
 use crate::reading::header::read_header;
 use crate::reading::lines::read_lines;
 use crate::reading::plants::read_plants;
@@ -46,8 +47,8 @@ pub fn read(file: &[u8]) -> Reading
     ensures { λ r. ⌜ Held r (periodFile (now (file .entry))) ⌝ }
 {
     match read_header(file) {
-        Header::Refused { answer } => refused(answer),
-        Header::Read {
+        ReadHeader::Refused { answer } => refused(answer),
+        ReadHeader::Whole {
             plants,
             segments,
             lines,

@@ -3,13 +3,13 @@
 //
 // A fault of reading is not the end of the file: it is said on standard error, with what to do next,
 // and so is output that cannot be written.
-mod input;
 mod output;
+mod room;
 
-use crate::input::Input;
-use crate::input::read_input;
-use crate::input::room;
 use crate::output::print_answer;
+use crate::room::room;
+use input::Input;
+use input::read_input;
 use libc::STDERR_FILENO;
 
 fn main() {

@@ -3,18 +3,17 @@
 use super::comparison::Comparison;
 use super::program::Program;
 use crate::answer_line::shown_line;
-use crate::periods::printed::file::PrintedFile;
-use crate::questions::label_of;
+use crate::questions::FileToPrint;
 use std::io;
 use std::process::{Output, Stdio};
 
 /// Starts the program once for each file and compares what it prints.
-pub fn compare_starts(files: &[PrintedFile], program: &Program) -> io::Result<Comparison> {
-    let mut comparison = Comparison::new(PrintedFile::LABELS);
+pub fn compare_starts<F: FileToPrint>(files: &[F], program: &Program) -> io::Result<Comparison> {
+    let mut comparison = Comparison::new(F::LABELS);
     for file in files {
-        let output = program.run(&file.0, Stdio::piped())?;
+        let output = program.run(file.file(), Stdio::piped())?;
         let expected = file.printed();
-        let label = label_of(&expected);
+        let label = F::label_of(&expected);
         match difference(&expected, &output) {
             None => comparison.add_equal(&label),
             Some(difference) => {

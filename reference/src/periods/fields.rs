@@ -1,5 +1,6 @@
 //! Which field each number of a period file is, and what it may be.
 
+use super::record_places::{RecordKind, RecordPlace};
 use super::records::{Line, Owner, Plant, Segment, ANY_NUMBER, EDITION, HEADER_NUMBERS};
 use super::refusal::Reason;
 use std::ops::RangeInclusive;
@@ -38,29 +39,20 @@ fn field(allowed: RangeInclusive<u64>, reason: Reason) -> Field {
 
 /// The field after the first numbers of the records, with the counts of the header.
 fn field_of_records(read: &[u64], counts: [u64; 3]) -> Option<Field> {
-    let [plants, segments, lines] = counts;
-    let plant_numbers = plants as usize * Plant::NUMBERS;
-    let segment_numbers = segments as usize * Segment::NUMBERS;
-    let line_numbers = lines as usize * Line::NUMBERS;
-
-    let mut place = read.len();
-    if place < plant_numbers {
-        let record = &read[read.len() - place % Plant::NUMBERS..];
-        let allowed = allowed_in_plant(record, segments);
-        return Some(field(allowed, Reason::PlantField));
-    }
-    place -= plant_numbers;
-    if place < segment_numbers {
-        let own = (place / Segment::NUMBERS + 1) as u64;
-        let record = &read[read.len() - place % Segment::NUMBERS..];
-        let allowed = allowed_in_segment(record, own, segments);
-        return Some(field(allowed, Reason::SegmentField));
-    }
-    place -= segment_numbers;
-    (place < line_numbers).then(|| {
-        let record = &read[read.len() - place % Line::NUMBERS..];
-        let allowed = allowed_in_line(record, plants, segments);
-        field(allowed, Reason::LineField)
+    let [plants, segments, _] = counts;
+    let place = RecordPlace::after(read.len(), counts)?;
+    let record = &read[read.len() - place.at..];
+    Some(match place.kind {
+        RecordKind::Plant => field(allowed_in_plant(record, segments), Reason::PlantField),
+        RecordKind::Segment => {
+            let own = place.record as u64;
+            let allowed = allowed_in_segment(record, own, segments);
+            field(allowed, Reason::SegmentField)
+        }
+        RecordKind::Line => {
+            let allowed = allowed_in_line(record, plants, segments);
+            field(allowed, Reason::LineField)
+        }
     })
 }
 

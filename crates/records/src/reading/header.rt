@@ -1,21 +1,18 @@
-// The header: "edition (1), plants P (1 to 16), segments S (1 to 32), lines L (0 to 512)".
-ghost use mathlib.Core.Path.{_≡_};
+// The header, read number by number.
 ghost use Rattle.records.specs.Run.{run};
 ghost use Rattle.records.specs.Fields.{reads};
 ghost use Rattle.records.specs.Periods.{header};
 ghost use Rattle.records.specs.Inside.{headerRead};
 use crate::answer::Answer;
+use crate::header::Header;
 use crate::line::Line;
 use crate::plant::Plant;
 use crate::segment::Segment;
 use number::Number;
 
-// The edition that is read here.
-const EDITION: u64 = 1;
-
-pub(crate) enum Header {
+pub(crate) enum ReadHeader {
     // The counts of the records, and where the first of them starts.
-    Read {
+    Whole {
         plants: u64,
         segments: u64,
         lines: u64,
@@ -26,12 +23,7 @@ pub(crate) enum Header {
     },
 }
 
-impl Header {
-    // The numbers of the header.
-    pub(crate) const FIELDS: u64 = 4;
-}
-
-pub(crate) fn read_header(file: &[u8]) -> Header
+pub(crate) fn read_header(file: &[u8]) -> ReadHeader
     ensures { λ r. ⌜ headerRead (now (file .entry)) r (reads header 0 (run (now (file .entry)))) ⌝ }
 {
     let found = number::read_at(file, 0);
@@ -40,12 +32,12 @@ pub(crate) fn read_header(file: &[u8]) -> Header
         next: at_plants,
     } = found
     else {
-        return Header::Refused {
+        return ReadHeader::Refused {
             answer: Answer::of_number(found, 0),
         };
     };
-    if edition != EDITION {
-        return Header::Refused {
+    if edition != Header::EDITION {
+        return ReadHeader::Refused {
             answer: Answer::Edition { place: 0 },
         };
     }
@@ -55,12 +47,12 @@ pub(crate) fn read_header(file: &[u8]) -> Header
         next: at_segments,
     } = found
     else {
-        return Header::Refused {
+        return ReadHeader::Refused {
             answer: Answer::of_number(found, 1),
         };
     };
     if !Plant::count_allowed(plants) {
-        return Header::Refused {
+        return ReadHeader::Refused {
             answer: Answer::Count { place: 1 },
         };
     }
@@ -70,27 +62,27 @@ pub(crate) fn read_header(file: &[u8]) -> Header
         next: at_lines,
     } = found
     else {
-        return Header::Refused {
+        return ReadHeader::Refused {
             answer: Answer::of_number(found, 2),
         };
     };
     if !Segment::count_allowed(segments) {
-        return Header::Refused {
+        return ReadHeader::Refused {
             answer: Answer::Count { place: 2 },
         };
     }
     let found = number::read_at(file, at_lines);
     let Number::Value { value: lines, next } = found else {
-        return Header::Refused {
+        return ReadHeader::Refused {
             answer: Answer::of_number(found, 3),
         };
     };
     if !Line::count_allowed(lines) {
-        return Header::Refused {
+        return ReadHeader::Refused {
             answer: Answer::Count { place: 3 },
         };
     }
-    Header::Read {
+    ReadHeader::Whole {
         plants,
         segments,
         lines,

@@ -8,8 +8,8 @@ ghost use Rattle.records.specs.Fields.{reads};
 ghost use Rattle.records.specs.Periods.{plant, mostNumbers};
 ghost use Rattle.records.specs.Inside.{plantRead, plantsRead};
 use crate::answer::Answer;
+use crate::header::Header;
 use crate::plant::Plant;
-use crate::reading::header::Header;
 use number::Number;
 
 // One plant's record, and where the next record starts.

@@ -1,7 +1,7 @@
 //! A period file on standard input, and what a program prints for it.
 
 use crate::periods::accounts::{account, printed, Tables};
-use crate::questions::hex;
+use crate::questions::{hex, label_of, FileToPrint};
 
 /// How many bytes of a file are shown: all that a period can have, and not all that come after.
 const SHOWN_BYTES: usize = 8192;
@@ -10,20 +10,26 @@ const SHOWN_BYTES: usize = 8192;
 #[derive(Clone, Debug, PartialEq, Eq)]
 pub struct PrintedFile(pub Vec<u8>);
 
-impl PrintedFile {
-    /// The labels of all that can be printed: rows begin with those of plants, and no table can
-    /// be too short.
-    pub const LABELS: &'static [&'static str] = &[
+impl FileToPrint for PrintedFile {
+    /// Rows begin with those of plants, and no table can be too short.
+    const LABELS: &'static [&'static str] = &[
         "P", "R1", "R2", "R3", "R4", "R5", "R6", "R7", "R8", "R9", "R10", "R11", "R12", "R13",
     ];
 
-    /// The text that must be printed.
-    pub fn printed(&self) -> String {
+    fn file(&self) -> &[u8] {
+        &self.0
+    }
+
+    fn printed(&self) -> String {
         printed(&account(&self.0, Tables::LARGE_ENOUGH))
     }
 
-    /// The file in words.
-    pub fn in_words(&self) -> String {
+    /// The label of the first line.
+    fn label_of(printed: &str) -> String {
+        label_of(printed)
+    }
+
+    fn in_words(&self) -> String {
         let length = self.0.len();
         let shown = hex(&self.0[..length.min(SHOWN_BYTES)], " ");
         if length > SHOWN_BYTES {

@@ -35,6 +35,7 @@ pub fn long_files() -> Vec<Vec<u8>> {
 mod tests {
     use super::*;
     use crate::periods::printed::file::PrintedFile;
+    use crate::questions::FileToPrint;
 
     /// How many of the files the line is printed for.
     fn printed_for(line: &str) -> usize {

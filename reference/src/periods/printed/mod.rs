@@ -68,7 +68,7 @@ fn seeded_files() -> Vec<Vec<u8>> {
 mod tests {
     use super::*;
     use crate::compare::tally::Tally;
-    use crate::questions::label_of;
+    use crate::questions::FileToPrint;
 
     #[test]
     fn files_are_few_enough_to_start_a_slow_program_for_each() {
@@ -81,7 +81,8 @@ mod tests {
         for files in [full_size_files(SEED_OF_FULL_SIZE_FILES), seeded_files()] {
             let mut tally = Tally::new(PrintedFile::LABELS);
             for file in files {
-                tally.add(&label_of(&PrintedFile(file).printed()));
+                let printed = PrintedFile(file).printed();
+                tally.add(&PrintedFile::label_of(&printed));
             }
             assert_eq!(tally.below(1).count(), 0, "{tally}");
         }

@@ -25,7 +25,7 @@ pub enum Damage {
 }
 
 /// The largest value that the most groups can hold.
-const LARGEST_OF_MOST_GROUPS: u64 = (1 << (GROUP_BITS * MOST_GROUPS)) - 1;
+pub const LARGEST_OF_MOST_GROUPS: u64 = (1 << (GROUP_BITS * MOST_GROUPS)) - 1;
 /// The most bytes that are put after the last number.
 const MOST_BYTES_AFTER: usize = 8;
 

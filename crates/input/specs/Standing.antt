@@ -1,0 +1,11 @@
+-- What the reading of standard input answers of the room that it was lent.
+use Prim.Native.Nat.{ℕ}
+use mathlib.Core.List.{List}
+use Rattle.io.specs.Counts.{Counts}
+use Rattle.input.specs.declared.Input.{Input}
+use Rattle.input.specs.declared.Input.the-variants.{File, Fault}
+
+-- The file's bytes stand at the start of the room; a fault leaves nothing to rely on.
+abbrev pub Stands : Input → List ℕ → Type 0
+Stands (File bytes) room = Counts bytes room
+Stands Fault room = Unit

@@ -1,0 +1,32 @@
+// Standard input, read into room that is lent: what the programs that take a period file share.
+ghost use Rattle.input.specs.Standing.{Stands};
+use libc::STDIN_FILENO;
+
+// What came of reading standard input.
+pub enum Input {
+    // So many bytes of the file stand at the start of the room: all of them, or as many as fit.
+    File { bytes: usize },
+    // A read failed, which is not the end of the file.
+    Fault,
+}
+
+// Reads standard input to its end, or until the room is full. A read that fails is not tried again:
+// libc does not tell why it failed, and one that a signal interrupts is taken up by the system itself,
+// since the programs handle no signals.
+pub fn read_input(room: &mut [u8]) -> Input
+    ensures { λ r. ⌜ Stands r (now (room .exit)) ⌝ }
+{
+    let mut bytes = 0;
+    while bytes < room.len() {
+        let got = libc::read(STDIN_FILENO, &mut room[bytes..]);
+        if got < 0 {
+            return Input::Fault;
+        }
+        let more = io::count(got, &room[bytes..]);
+        if more == 0 {
+            break;
+        }
+        bytes += more;
+    }
+    Input::File { bytes }
+}

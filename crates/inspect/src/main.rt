@@ -1,0 +1,38 @@
+// The inspector's program: it reads a period file on standard input, and prints each number of it with
+// its place, its byte and its field, and then where the walk stops.
+//
+// A fault of reading is not the end of the file: it is said on standard error, with what to do next,
+// and so is output that cannot be written.
+mod page;
+mod words;
+
+use crate::page::print_page;
+use input::Input;
+use input::read_input;
+use libc::STDERR_FILENO;
+
+fn main() {
+    let mut room = io::large_buffer();
+    let input = read_input(&mut room);
+    let Input::File { bytes } = input else {
+        say_unread();
+        return;
+    };
+    if !print_page(&room[..bytes]) {
+        say_unwritten();
+    }
+}
+
+fn say_unread() {
+    io::write_all(
+        STDERR_FILENO,
+        b"inspect: cannot read standard input: see that it is a file that you may read, and run this again\n",
+    );
+}
+
+fn say_unwritten() {
+    io::write_all(
+        STDERR_FILENO,
+        b"inspect: cannot write all lines to standard output: see that there is room, and run this again\n",
+    );
+}

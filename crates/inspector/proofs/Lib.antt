@@ -1,0 +1,13 @@
+-- What the proofs over a reader share, and what a caller of a step goes by.
+mod ByHand
+mod Lent
+pub mod Steps
+-- The numbers that reading takes: they are the period's, and a walk over the file gives them.
+pub mod NumbersTaken
+mod Taking
+pub mod Walking
+-- The field that is named at a place.
+pub mod FieldsNamed
+pub mod RefusedFields
+-- No two outcomes meet a promise.
+pub mod Outcome

@@ -1,0 +1,42 @@
+-- No two outcomes meet a promise of this crate.
+use Prim.Native.Nat.{ℕ}
+use mathlib.Core.Path.{_≡_, sym, ap, _∙_}
+use mathlib.Core.List.{List}
+use denote.Ref.{RefT, now}
+use Rattle.number.specs.declared.Number.{Number}
+use Rattle.number.specs.Reading.{readAt}
+use Rattle.number.specs.Answers.{said}
+use Rattle.number.proofs.Outcome.{said-once}
+use Rattle.records.specs.declared.header.Header.{Header}
+use Rattle.inspector.specs.declared.Inspector.{Inspector}
+use Rattle.inspector.specs.declared.step.Step.{Step}
+use Rattle.inspector.specs.declared.field.Field.{Field}
+use Rattle.inspector.specs.Reader.{begun, stepped, Stepped, stepAt, saidOfStep}
+use Rattle.inspector.specs.FieldsAt.{fieldAt}
+
+-- `Inspector::new`, `Inspector::at` and `field_at`: their promises give the result itself
+pub one-start : (file : RefT (List ℕ)) (r s : Inspector) → r ≡ begun file → s ≡ begun file → r ≡ s
+one-start file r s p q = p ∙ sym q
+
+pub one-place : (reader : Inspector) (r s : ℕ) → r ≡ reader .at → s ≡ reader .at → r ≡ s
+one-place reader r s p q = p ∙ sym q
+
+pub one-field : (header : Header) (place : ℕ) (r s : Field) → r ≡ fieldAt header place → s ≡ fieldAt header place → r ≡ s
+one-field header place r s p q = p ∙ sym q
+
+-- `Inspector::step`: one answer, and one reader afterwards
+pub one-step :
+    (reader : Inspector) (r s : Number) (after after' : Inspector) →
+    said r ≡ readAt (now (reader .file)) (reader .at) → after ≡ stepped reader →
+    said s ≡ readAt (now (reader .file)) (reader .at) → after' ≡ stepped reader → (r ≡ s) × (after ≡ after')
+one-step reader r s after after' p move q move' = (said-once r s (p ∙ sym q), move ∙ sym move')
+
+-- `step_at`: what a step says determines the step
+pub said-of-step-once : (r s : Step) → saidOfStep r ≡ saidOfStep s → r ≡ s
+said-of-step-once r s e =
+    let found = said-once (r .found) (s .found) (ap (λ (x : Stepped). x .answer) e) in
+    let at = ap (λ (x : Stepped). x .at) e in
+    λ i. record { found = found i; at = at i }
+
+pub one-step-at : (file : List ℕ) (at : ℕ) (r s : Step) → saidOfStep r ≡ stepAt file at → saidOfStep s ≡ stepAt file at → r ≡ s
+one-step-at file at r s p q = said-of-step-once r s (p ∙ sym q)

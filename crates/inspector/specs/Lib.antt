@@ -1,0 +1,8 @@
+-- The reader and its step; a walk.
+pub mod Reader
+pub mod Walk
+-- The numbers that the period's reading consumes, and those of a period.
+pub mod Consumed
+pub mod Numbers
+-- Which field a number is.
+pub mod FieldsAt

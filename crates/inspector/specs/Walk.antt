@@ -1,0 +1,32 @@
+-- A walk: what a reader answers, step by step.
+use Prim.Native.Nat.{ℕ}
+use mathlib.Core.Path.{_≡_}
+use mathlib.Core.List.{List, [], _∷_}
+use denote.Ref.{RefT, now}
+use Rattle.number.specs.Reading.{Answer, number, fault as oneFault, readAt}
+use Rattle.inspector.specs.declared.Inspector.{Inspector}
+use Rattle.inspector.specs.Reader.{begun, stepped}
+
+-- What the next step of a reader answers.
+abbrev pub answers : Inspector → Answer
+answers reader = readAt (now (reader .file)) (reader .at)
+
+-- From one reader to another, step by step: each step answers a number, and these are their values in order.
+pub data Walks : Inspector → List ℕ → Inspector → Type 0 where
+  there : {reader : Inspector} → Walks reader [] reader
+  step :
+      {reader last : Inspector} {value next : ℕ} {values : List ℕ} → answers reader ≡ number value next →
+      Walks (stepped reader) values last → Walks reader (value ∷ values) last
+
+-- A walk from the start of a file that gives these values.
+pub record Walked (file : RefT (List ℕ)) (values : List ℕ) : Type 0 where
+  pub last : Inspector
+  pub walks : Walks (begun file) values last
+
+-- A walk from the start of a file that gives these values and stops with a fault at a byte, where the reader stays.
+pub record Stops (file : RefT (List ℕ)) (values : List ℕ) (refusal at : ℕ) : Type 0 where
+  pub last : Inspector
+  pub walks : Walks (begun file) values last
+  pub stands : last ≡ record { file = file; at = at }
+  pub fault : answers last ≡ oneFault refusal
+  pub stays : stepped last ≡ last

@@ -1,0 +1,65 @@
+// Which field of which record a number of the file is, told by its place and by the header.
+ghost use mathlib.Core.Path.{_≡_};
+ghost use Rattle.inspector.specs.FieldsAt.{fieldAt};
+use records::Header;
+use records::Line;
+use records::Plant;
+use records::Segment;
+
+// A record's fields are counted from 0 in the order of the file, and the records of a kind from 1.
+pub enum Field {
+    // Of the header: edition, plants, segments, lines.
+    Header { field: u64 },
+    // Of a plant: exported, first segment, origin fraction.
+    Plant { number: u64, field: u64 },
+    // Of a segment: kind, metered outflow, next segment.
+    Segment { number: u64, field: u64 },
+    // Of a line: owner kind, owner number, class, quantity, factor.
+    Line { number: u64, field: u64 },
+    // The header announces fewer numbers.
+    After,
+    // The header tells nothing.
+    Untold,
+}
+
+// The field at a place.
+pub fn field_at(header: Header, place: u64) -> Field
+    ensures { λ r. ⌜ r ≡ fieldAt header place ⌝ }
+{
+    if place < Header::FIELDS {
+        return Field::Header { field: place };
+    }
+    let Header::Tells {
+        plants,
+        segments,
+        lines,
+    } = header
+    else {
+        return Field::Untold;
+    };
+    let index = place - Header::FIELDS;
+    let plant = index / Plant::FIELDS;
+    if plant < plants {
+        return Field::Plant {
+            number: plant + 1,
+            field: index % Plant::FIELDS,
+        };
+    }
+    let index = index - Plant::FIELDS * plants;
+    let segment = index / Segment::FIELDS;
+    if segment < segments {
+        return Field::Segment {
+            number: segment + 1,
+            field: index % Segment::FIELDS,
+        };
+    }
+    let index = index - Segment::FIELDS * segments;
+    let line = index / Line::FIELDS;
+    if line < lines {
+        return Field::Line {
+            number: line + 1,
+            field: index % Line::FIELDS,
+        };
+    }
+    Field::After
+}

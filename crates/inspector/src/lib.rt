@@ -1,0 +1,54 @@
+// The inspector's reader: it holds the lent file with its next place, and walks it number by number
+// (01, "Who calls it").
+//
+// The borrow checker covers no function over a struct that holds a reference, so each of them is proved
+// by hand and kept thin: the work is that of the number layer.
+mod after;
+pub mod field;
+pub mod step;
+
+ghost use mathlib.Core.Path.{_≡_};
+ghost use Rattle.number.specs.Reading.{readAt};
+ghost use Rattle.number.specs.Answers.{said};
+ghost use Rattle.inspector.specs.Reader.{begun, stepped};
+use crate::after::after;
+pub use crate::field::Field;
+pub use crate::field::field_at;
+pub use crate::step::Step;
+pub use crate::step::step_at;
+use number::Number;
+use number::read_at;
+
+pub struct Inspector<'a> {
+    // The lent file.
+    pub file: &'a [u8],
+    // The byte where its next number starts.
+    pub at: usize,
+}
+
+impl<'a> Inspector<'a> {
+    // A reader at the start of the file.
+    pub fn new(file: &'a [u8]) -> Inspector<'a>
+        ensures { λ r. ⌜ r ≡ begun (file .entry) ⌝ }
+    {
+        Inspector { file, at: 0 }
+    }
+
+    // Where it stands: the byte where its next number starts.
+    pub fn at(self) -> usize
+        ensures { λ r. ⌜ r ≡ self .entry .at ⌝ }
+    {
+        self.at
+    }
+
+    // Answers as number reading does where it stands, and moves past the number. At the end of the file,
+    // and on a fault, it stays.
+    pub fn step<'s>(&'s mut self) -> Number
+        ensures { λ r. ⌜ said r ≡ readAt (now (now (self .entry) .file)) (now (self .entry) .at) ⌝ }
+        ensures { λ _. ⌜ now (self .exit) ≡ stepped (now (self .entry)) ⌝ }
+    {
+        let found = read_at(self.file, self.at);
+        self.at = after(found, self.at);
+        found
+    }
+}

@@ -1,0 +1,320 @@
+//! The inspector's page: a walk through a file number by number, and how it ends.
+
+use super::named_field::NamedField;
+use crate::numbers::number::{read_number, Reading, Refusal};
+use crate::periods::refusal::{Reason, Refused};
+use std::fmt;
+
+/// How many bytes of a file are walked; a longer file is cut.
+pub const BUFFER_BYTES: usize = 65_535;
+/// What stands for the value of a number that has a fault.
+const NO_VALUE: &str = "-";
+
+/// One number that the walk came to.
+#[derive(Debug, PartialEq, Eq)]
+struct Step {
+    place: usize,
+    /// The byte where the number starts.
+    byte: u64,
+    /// Its value, nothing if it has a fault.
+    value: Option<u64>,
+    field: NamedField,
+}
+
+/// How the walk ends.
+#[derive(Clone, Copy, Debug, PartialEq, Eq)]
+pub enum End {
+    /// A number has the fault 1, 2 or 3.
+    Refused(Refused),
+    /// The file ends where it may: so many numbers, so many bytes.
+    OfFile { place: usize, byte: u64 },
+    /// The file goes on behind the buffer; the first number that is not whole in the buffer, and
+    /// the byte where it starts.
+    Cut { place: usize, byte: u64 },
+}
+
+/// The page of a file.
+#[derive(Debug, PartialEq, Eq)]
+pub struct Page {
+    steps: Vec<Step>,
+    pub end: End,
+}
+
+/// Walks the file as far as the buffer holds it. No field behind the header is tested.
+pub fn inspect(file: &[u8]) -> Page {
+    let held = &file[..file.len().min(BUFFER_BYTES)];
+    let is_cut = held.len() < file.len();
+    let mut numbers = Vec::new();
+    let mut steps = Vec::new();
+    let mut byte = 0;
+    loop {
+        let place = numbers.len();
+        let field = NamedField::after(&numbers);
+        let step = |value| Step {
+            place,
+            byte,
+            value,
+            field,
+        };
+        match read_number(held, byte) {
+            Reading::Number { value, next } => {
+                steps.push(step(Some(value)));
+                numbers.push(value);
+                byte = next;
+            }
+            Reading::Refused(Refusal::FileEnds) if is_cut => {
+                let end = End::Cut { place, byte };
+                return Page { steps, end };
+            }
+            Reading::Refused(Refusal::FileEnds)
+                if byte == held.len() as u64 && !field.is_needed() =>
+            {
+                let end = End::OfFile { place, byte };
+                return Page { steps, end };
+            }
+            Reading::Refused(refusal) => {
+                steps.push(step(None));
+                let end = End::Refused(Reason::from(refusal).at(place));
+                return Page { steps, end };
+            }
+        }
+    }
+}
+
+impl fmt::Display for Step {
+    fn fmt(&self, out: &mut fmt::Formatter) -> fmt::Result {
+        let Step {
+            place, byte, field, ..
+        } = self;
+        match self.value {
+            Some(value) => write!(out, "{place} {byte} {value} {field}"),
+            None => write!(out, "{place} {byte} {NO_VALUE} {field}"),
+        }
+    }
+}
+
+impl fmt::Display for End {
+    fn fmt(&self, out: &mut fmt::Formatter) -> fmt::Result {
+        match self {
+            End::Refused(refused) => write!(out, "{refused}"),
+            End::OfFile { place, byte } => write!(out, "E {place} {byte}"),
+            End::Cut { place, byte } => write!(out, "C {place} {byte}"),
+        }
+    }
+}
+
+impl fmt::Display for Page {
+    fn fmt(&self, out: &mut fmt::Formatter) -> fmt::Result {
+        for step in &self.steps {
+            writeln!(out, "{step}")?;
+        }
+        writeln!(out, "{}", self.end)
+    }
+}
+
+#[cfg(test)]
+mod tests {
+    use super::*;
+    use crate::numbers::number::{write_number, LIMIT, MORE_FOLLOW, MOST_GROUPS};
+    use crate::periods::paper::{whole_period, WHOLE_PERIOD};
+    use crate::periods::reading::read_period;
+    use crate::periods::writing::{with_values, write_numbers};
+
+    /// A header that is not allowed.
+    const NOT_ALLOWED: [u8; 4] = [0x02, 0x01, 0x01, 0x00];
+
+    fn page_of(file: &[u8]) -> String {
+        inspect(file).to_string()
+    }
+
+    /// The last lines of the file's page, as many as are asked for.
+    fn last_lines(file: &[u8], count: usize) -> Vec<String> {
+        let page = page_of(file);
+        let lines: Vec<&str> = page.lines().collect();
+        let last = &lines[lines.len() - count..];
+        last.iter().map(|line| line.to_string()).collect()
+    }
+
+    /// So many bytes of one-byte numbers behind a header that is not allowed, then the others.
+    fn ones_then(length: usize, then: &[u8]) -> Vec<u8> {
+        let mut file = NOT_ALLOWED.to_vec();
+        file.resize(length, 0x01);
+        file.extend(then);
+        file
+    }
+
+    #[test]
+    fn page_of_the_whole_period() {
+        assert_eq!(
+            page_of(&whole_period()),
+            "0 0 1 edition\n\
+             1 1 2 plants\n\
+             2 2 2 segments\n\
+             3 3 2 lines\n\
+             4 4 10000 plant 1 exported\n\
+             5 6 1 plant 1 first segment\n\
+             6 7 1000000 plant 1 origin fraction\n\
+             7 10 5001 plant 2 exported\n\
+             8 12 1 plant 2 first segment\n\
+             9 13 900000 plant 2 origin fraction\n\
+             10 16 1 segment 1 kind\n\
+             11 17 14900 segment 1 metered outflow\n\
+             12 19 2 segment 1 next segment\n\
+             13 20 6 segment 2 kind\n\
+             14 21 14899 segment 2 metered outflow\n\
+             15 23 0 segment 2 next segment\n\
+             16 24 0 line 1 owner kind\n\
+             17 25 1 line 1 owner number\n\
+             18 26 4 line 1 class\n\
+             19 27 2000 line 1 quantity\n\
+             20 29 350 line 1 factor\n\
+             21 31 1 line 2 owner kind\n\
+             22 32 1 line 2 owner number\n\
+             23 33 3 line 2 class\n\
+             24 34 101 line 2 quantity\n\
+             25 35 2650 line 2 factor\n\
+             E 26 37\n"
+        );
+    }
+
+    #[test]
+    fn header_that_is_not_whole_is_fault_1() {
+        assert_eq!(page_of(&[]), "0 0 - edition\nR 1 0\n");
+        assert_eq!(page_of(&[0x80]), "0 0 - edition\nR 1 0\n");
+        assert_eq!(page_of(&[0x01]), "0 0 1 edition\n1 1 - plants\nR 1 1\n");
+        assert_eq!(
+            page_of(&[0x02, 0x00, 0xAC, 0x02]),
+            "0 0 2 edition\n1 1 0 plants\n2 2 300 segments\n3 4 - lines\nR 1 3\n"
+        );
+    }
+
+    #[test]
+    fn header_that_is_not_allowed_tells_nothing() {
+        assert_eq!(last_lines(&NOT_ALLOWED, 2), ["3 3 0 lines", "E 4 4"]);
+        let numbers_behind = [&NOT_ALLOWED[..], &[0x07, 0xAC, 0x02]].concat();
+        assert_eq!(
+            last_lines(&numbers_behind, 3),
+            [
+                "4 4 7 not told by the header",
+                "5 5 300 not told by the header",
+                "E 6 7",
+            ]
+        );
+        let ends_inside = [&NOT_ALLOWED[..], &[0x07, 0xAC]].concat();
+        assert_eq!(
+            last_lines(&ends_inside, 2),
+            ["5 5 - not told by the header", "R 1 5"]
+        );
+    }
+
+    #[test]
+    fn file_that_ends_early_is_fault_1_at_every_number() {
+        for place in 0..WHOLE_PERIOD.len() {
+            let before = write_numbers(&WHOLE_PERIOD[..place]);
+            let expected = format!("R 1 {place}");
+            assert_eq!(last_lines(&before, 1), [&expected[..]]);
+            let cut_inside = [&before[..], &[0x80]].concat();
+            assert_eq!(last_lines(&cut_inside, 2), last_lines(&before, 2));
+        }
+    }
+
+    #[test]
+    fn faults_of_numbers_are_told_with_byte_and_field() {
+        let before = write_numbers(&WHOLE_PERIOD[..6]);
+        let last = |form: &[u8]| last_lines(&[&before[..], form, &[0x00; 9]].concat(), 2);
+        let line = "6 7 - plant 1 origin fraction";
+        assert_eq!(last(&[0x80, 0x00]), [line, "R 2 6"]);
+        assert_eq!(last(&[MORE_FOLLOW; MOST_GROUPS]), [line, "R 3 6"]);
+        assert_eq!(last(&write_number(LIMIT + 1)), [line, "R 3 6"]);
+        assert_eq!(page_of(&[0x80, 0x00]), "0 0 - edition\nR 2 0\n");
+    }
+
+    #[test]
+    fn numbers_after_the_last_are_read_too() {
+        let last = |after: &[u8], count| last_lines(&[&whole_period(), after].concat(), count);
+        assert_eq!(
+            last(&[0x00, 0xAC, 0x02], 3),
+            [
+                "26 37 0 after the last number",
+                "27 38 300 after the last number",
+                "E 28 40",
+            ]
+        );
+        let line = "26 37 - after the last number";
+        assert_eq!(last(&[0x80], 2), [line, "R 1 26"]);
+        assert_eq!(last(&[0x80, 0x00], 2), [line, "R 2 26"]);
+        assert_eq!(last(&[0xFF; 5], 2), [line, "R 3 26"]);
+    }
+
+    #[test]
+    fn values_out_of_their_range_are_printed_like_any_other() {
+        let changed = with_values(&WHOLE_PERIOD, &[(13, 4_000_000_000), (25, 1_000_000_001)]);
+        let page = page_of(&write_numbers(&changed));
+        assert!(page.contains("\n13 20 4000000000 segment 2 kind\n14 25 14899 "));
+        assert!(page.ends_with("\n25 39 1000000001 line 2 factor\nE 26 44\n"));
+    }
+
+    #[test]
+    fn file_that_ends_early_is_refused_as_its_reading_is() {
+        for length in 0..whole_period().len() {
+            let file = &whole_period()[..length];
+            let refused = read_period(file).expect_err("the file ends early");
+            assert_eq!(inspect(file).end, End::Refused(refused));
+        }
+    }
+
+    #[test]
+    fn file_as_long_as_the_buffer_is_not_cut() {
+        assert_eq!(
+            last_lines(&ones_then(65_535, &[]), 2),
+            ["65534 65534 1 not told by the header", "E 65535 65535"]
+        );
+        assert_eq!(
+            last_lines(&ones_then(65_531, &[0x80; 4]), 2),
+            ["65531 65531 - not told by the header", "R 1 65531"]
+        );
+    }
+
+    #[test]
+    fn longer_file_is_cut_at_the_first_number_that_is_not_whole() {
+        let limit = write_number(LIMIT);
+        for length in [65_536, 65_537, 70_000] {
+            assert_eq!(
+                last_lines(&ones_then(length, &[]), 2),
+                ["65534 65534 1 not told by the header", "C 65535 65535"]
+            );
+        }
+        for start in 65_531..=65_535 {
+            let expected = format!("C {start} {start}");
+            assert_eq!(last_lines(&ones_then(start, &limit), 1), [&expected[..]]);
+        }
+        assert_eq!(
+            last_lines(&ones_then(65_530, &[&limit[..], &[0x01]].concat()), 2),
+            [
+                "65530 65530 4000000000 not told by the header",
+                "C 65531 65535",
+            ]
+        );
+    }
+
+    #[test]
+    fn faults_2_and_3_are_told_where_the_buffer_holds_them() {
+        let faults = [
+            (&[0x80, 0x00][..], "R 2"),
+            (&[0x80, 0x80, 0x80, 0x80, 0x00], "R 2"),
+            (&[0x80; 5], "R 3"),
+            (&[0x81, 0xD0, 0xAC, 0xF3, 0x0E], "R 3"),
+        ];
+        for (form, refusal) in faults {
+            let start = 65_535 - form.len();
+            let followed = [form, &[0x01]].concat();
+            let expected = format!("{refusal} {start}");
+            assert_eq!(last_lines(&ones_then(start, &followed), 1), [&expected[..]]);
+            assert_eq!(last_lines(&ones_then(start, form), 1), [&expected[..]]);
+
+            let later = start + 1;
+            let expected = format!("C {later} {later}");
+            assert_eq!(last_lines(&ones_then(later, form), 1), [&expected[..]]);
+        }
+    }
+}
