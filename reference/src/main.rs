@@ -53,7 +53,8 @@ usage: reference answer numbers|readings|historian
            reads a period file on standard input, writes its rows or its refusal
        reference inspect
            reads a period file on standard input, writes the inspector's page: a line
-           for each number, and one for how it ends
+           for each number, its refusal if its reading refuses it, and a line for how
+           the walk ends
        reference cases periods SEED COUNT
            writes COUNT cases of whole periods with their answers, one line each;
            SEED and COUNT are whole numbers, and the paper's own cases come first";
@@ -178,15 +179,16 @@ fn rows() -> Result<ExitCode, String> {
     }
 }
 
-/// Writes the inspector's page of the period file on standard input. A file that is cut is not
-/// refused, but it was not walked to its end either: the work could not be done.
+/// Writes the inspector's page of the period file on standard input. A file that is cut is
+/// refused too, being longer than any period, but it was not walked to its end: that the work
+/// could not be done comes first.
 fn inspection() -> Result<ExitCode, String> {
     let page = inspect(&input()?);
     output(page.to_string().as_bytes())?;
-    match page.end {
-        End::OfFile { .. } => Ok(ExitCode::SUCCESS),
-        End::Refused(_) => Ok(ExitCode::from(REFUSED)),
-        End::Cut { .. } => Ok(ExitCode::from(NOT_DONE)),
+    match (page.end, page.refused) {
+        (End::Cut { .. }, _) => Ok(ExitCode::from(NOT_DONE)),
+        (_, Some(_)) => Ok(ExitCode::from(REFUSED)),
+        (_, None) => Ok(ExitCode::SUCCESS),
     }
 }
 

@@ -42,6 +42,10 @@ pub trait FileToPrint {
     /// The labels of all texts that can be printed, in the order of the report.
     const LABELS: &'static [&'static str];
 
+    /// The labels of what is counted besides, in the order of the report; none if nothing is. A
+    /// suite need not meet them.
+    const LABELS_BESIDES: &'static [&'static str] = &[];
+
     /// The file that is put to the program.
     fn file(&self) -> &[u8];
 
@@ -50,6 +54,11 @@ pub trait FileToPrint {
 
     /// What such a text is counted as.
     fn label_of(printed: &str) -> String;
+
+    /// What such a text is counted as besides, if anything.
+    fn label_besides(_printed: &str) -> Option<String> {
+        None
+    }
 
     /// The file in words.
     fn in_words(&self) -> String;
@@ -74,11 +83,11 @@ impl<C> Suite<C> {
     }
 }
 
-/// The label of an answer line: its letter, and for a refusal its number too.
+/// The label of an answer line: its letter, and for a refusal or a fault its number too.
 pub fn label_of(line: &str) -> String {
     let mut words = line.split_whitespace();
     match words.next() {
-        Some("R") => format!("R{}", words.next().unwrap_or_default()),
+        Some(letter @ ("R" | "F")) => format!("{letter}{}", words.next().unwrap_or_default()),
         letter => letter.unwrap_or_default().to_string(),
     }
 }
@@ -120,10 +129,11 @@ mod tests {
     use super::*;
 
     #[test]
-    fn labels_tell_refusals_apart() {
+    fn labels_tell_refusals_and_faults_apart() {
         assert_eq!(label_of("N 300 3\n"), "N");
         assert_eq!(label_of("R 1 7\n"), "R1");
         assert_eq!(label_of("R 12 7\n"), "R12");
+        assert_eq!(label_of("F 3 7\n"), "F3");
         assert_eq!(label_of("A 1 1 1 0\n"), "A");
         assert_eq!(label_of("\n"), "");
     }

@@ -199,30 +199,59 @@ fn page_of_a_file_is_written_to_its_end() {
     assert!(page.starts_with("0 0 1 edition\n1 1 2 plants\n2 2 2 segments\n3 3 2 lines\n"));
     assert!(page.contains("\n5 6 1 plant 1 first segment\n"));
     assert!(page.ends_with("\n25 35 2650 line 2 factor\nE 26 37\n"));
-    assert_eq!(page.lines().count(), 27);
+    assert_eq!(page.lines().count(), 27, "no refusal");
     assert_eq!(text(&output.stderr), "");
     assert_eq!(output.status.code(), Some(0));
 }
 
 #[test]
-fn page_of_a_file_is_written_up_to_its_fault() {
-    let faults = [
-        (&[][..], "0 0 - edition\nR 1 0\n"),
-        (&[0x02, 0x80, 0x00], "0 0 2 edition\n1 1 - plants\nR 2 1\n"),
-        (&[0x80; 6], "0 0 - edition\nR 3 0\n"),
+fn page_of_a_refused_file_has_the_refusal_before_its_last_line() {
+    let pages = [
+        (&[][..], "R 1 0\nE 0 0\n"),
+        (&[0x80], "0 0 - edition\nR 1 0\nF 1 0\n"),
+        (&[0x02], "0 0 2 edition\nR 4 0\nE 1 1\n"),
+        (
+            &[0x02, 0x80, 0x00],
+            "0 0 2 edition\n1 1 - plants\nR 4 0\nF 2 1\n",
+        ),
+        (&[0x80; 6], "0 0 - edition\nR 3 0\nF 3 0\n"),
     ];
-    for (file, page) in faults {
+    for (file, page) in pages {
         let output = run(&["inspect"], file);
         assert_eq!(text(&output.stdout), page);
+        assert_eq!(text(&output.stderr), "");
         assert_eq!(output.status.code(), Some(1));
     }
+}
+
+#[test]
+fn page_goes_on_after_the_last_number() {
+    let output = run(&["inspect"], &[&WHOLE_PERIOD[..], &[0x80]].concat());
+    let page = text(&output.stdout);
+    assert!(page.ends_with("\n26 37 - after the last number\nR 9 26\nF 1 26\n"));
+    assert_eq!(page.lines().count(), 29);
+    assert_eq!(output.status.code(), Some(1));
+}
+
+#[test]
+fn page_does_not_look_at_the_accounts() {
+    // The first outflow is 15,002 kg of 15,001.
+    let mut file = WHOLE_PERIOD;
+    file[17] = 0x9A;
+    file[18] = 0x75;
+    assert_eq!(text(&run(&["rows"], &file).stdout), "R 12 1\n");
+    let output = run(&["inspect"], &file);
+    let page = text(&output.stdout);
+    assert!(page.contains("\n11 17 15002 segment 1 metered outflow\n"));
+    assert!(page.ends_with("\n25 35 2650 line 2 factor\nE 26 37\n"));
+    assert_eq!(output.status.code(), Some(0));
 }
 
 #[test]
 fn page_of_a_file_that_is_cut_says_so() {
     let output = run(&["inspect"], &[0x01; 65_536]);
     let page = text(&output.stdout);
-    assert!(page.ends_with("\n65534 65534 1 after the last number\nC 65535 65535\n"));
+    assert!(page.ends_with("\n65534 65534 1 after the last number\nR 7 9\nC 65535 65535\n"));
     assert_eq!(text(&output.stderr), "");
     assert_eq!(output.status.code(), Some(2));
 }

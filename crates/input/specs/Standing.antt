@@ -5,7 +5,7 @@ use Rattle.io.specs.Counts.{Counts}
 use Rattle.input.specs.declared.Input.{Input}
 use Rattle.input.specs.declared.Input.the-variants.{File, Fault}
 
--- The file's bytes stand at the start of the room; a fault leaves nothing to rely on.
+-- So many bytes, no more than the room has; a fault leaves nothing to rely on.
 abbrev pub Stands : Input → List ℕ → Type 0
 Stands (File bytes) room = Counts bytes room
 Stands Fault room = Unit

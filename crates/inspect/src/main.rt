@@ -1,9 +1,11 @@
 // The inspector's program: it reads a period file on standard input, and prints each number of it with
-// its place, its byte and its field, and then where the walk stops.
+// its place, its byte and its field, whether reading refuses it, and where the walk stops.
 //
 // A fault of reading is not the end of the file: it is said on standard error, with what to do next,
 // and so is output that cannot be written.
+mod ending;
 mod page;
+mod text;
 mod words;
 
 use crate::page::print_page;
@@ -13,12 +15,19 @@ use libc::STDERR_FILENO;
 
 fn main() {
     let mut room = io::large_buffer();
+    // The last byte of the room is not walked: it shows that a file goes on.
+    let most = room.len() - 1;
     let input = read_input(&mut room);
     let Input::File { bytes } = input else {
         say_unread();
         return;
     };
-    if !print_page(&room[..bytes]) {
+    let printed = if most < bytes {
+        print_page(&room[..most], true)
+    } else {
+        print_page(&room[..bytes], false)
+    };
+    if !printed {
         say_unwritten();
     }
 }

@@ -1,7 +1,8 @@
 // The words for a field, as 01 names it, on standard output, up to the end of the line. Each function
 // answers whether all that it prints could be written.
+use crate::text::print_number;
+use crate::text::print_words;
 use inspector::Field;
-use libc::STDOUT_FILENO;
 
 // Which field of which record.
 pub(crate) fn print_field(field: Field) -> bool {
@@ -54,13 +55,4 @@ fn print_line_field(field: u64) -> bool {
         3 => print_words(b" quantity\n"),
         _ => print_words(b" factor\n"),
     }
-}
-
-fn print_words(words: &[u8]) -> bool {
-    io::write_all(STDOUT_FILENO, words)
-}
-
-// A number after what stands before it.
-pub(crate) fn print_number(number: u64) -> bool {
-    io::write_all(STDOUT_FILENO, b" ") && io::print_decimal(STDOUT_FILENO, number)
 }

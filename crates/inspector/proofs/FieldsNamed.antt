@@ -23,7 +23,8 @@ use Rattle.accounts.specs.Accepted.{Accepted, held}
 use Rattle.inspector.specs.declared.field.Field.{Field}
 use Rattle.inspector.specs.declared.field.Field.the-variants as Field
 use Rattle.inspector.specs.Numbers.{plantNumbersOf, segmentNumbersOf, lineNumbersOf, ofEach, numbersOf}
-use Rattle.inspector.specs.FieldsAt.{fieldAt, valueIn}
+use Rattle.inspector.specs.FieldsAt.{fieldAt}
+use Rattle.inspector.specs.FieldsTold.{standsIn}
 use Rattle.inspector.proofs.NumbersTaken.{header-told}
 use Rattle.inspector.proofs.Walking.{walked-value, accepted-numbers}
 
@@ -93,12 +94,12 @@ module _ (period : Period) where
   tells = Tells (length (period .plants)) (length (period .segments)) (length (period .lines))
 
   -- the value of the one field or the other
-  of-either : (t : Bool) (a b : Field) → valueIn (cond t a b) period ≡ cond t (valueIn a period) (valueIn b period)
+  of-either : (t : Bool) (a b : Field) → standsIn (cond t a b) period ≡ cond t (standsIn a period) (standsIn b period)
   of-either true a b = refl
   of-either false a b = refl
 
   -- at every place: behind the last number no field is named, and both sides are 0
-  pub number-of-field : (k : ℕ) → getD (numbersOf period) k 0 ≡ valueIn (fieldAt tells k) period
+  pub number-of-field : (k : ℕ) → getD (numbersOf period) k 0 ≡ standsIn (fieldAt tells k) period
   unfolding numbersOf fieldAt
   number-of-field zero = refl
   number-of-field (suc zero) = refl
@@ -136,7 +137,7 @@ module _ (period : Period) where
 -- ---- an accepted file: a number has the value of the field that is named at its place
 pub field-named :
     {plants segments : List ℕ} (file : RefT (List ℕ)) → Accepted (now file) plants segments → (k : ℕ) → k < length (numbersOf (held (now file))) →
-    valueAt (now file) k ≡ valueIn (fieldAt (headerOf (now file)) k) (held (now file))
+    valueAt (now file) k ≡ standsIn (fieldAt (headerOf (now file)) k) (held (now file))
 field-named file given k h =
     rw (header-told given) (walked-value (accepted-numbers file given .walks) k h ∙ number-of-field (held (now file)) k)
 

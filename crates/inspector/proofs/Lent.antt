@@ -1,5 +1,5 @@
 -- A reader that stands in a local is lent by `&mut` for one call, and comes back as the call left it.
--- Whoever is lent it may ask that the file outlives the loan. So the loan is for the meet of 'a with a lifetime ν that is made for the call: half of the token of 'a goes
+-- Whoever is lent it may ask that the file outlives the loan. So the loan lasts for the meet of 'a with a new lifetime ν, as long as the call: half of the token of 'a goes
 -- into the token of that meet, and the other half is lent beside it. Once the call is over ν ends, and with it the loan.
 use Prim.Native.Nat.{ℕ}
 use mathlib.Core.List.{List, [], _∷_}

@@ -2,23 +2,22 @@
 use Prim.Native.Nat.{ℕ}
 use mathlib.Core.Path.{_≡_, sym, ap, _∙_}
 use mathlib.Core.List.{List}
-use denote.Ref.{RefT, now}
+use denote.Ref.{RefT}
 use Rattle.number.specs.declared.Number.{Number}
-use Rattle.number.specs.Reading.{readAt}
 use Rattle.number.specs.Answers.{said}
 use Rattle.number.proofs.Outcome.{said-once}
 use Rattle.records.specs.declared.header.Header.{Header}
 use Rattle.inspector.specs.declared.Inspector.{Inspector}
 use Rattle.inspector.specs.declared.step.Step.{Step}
 use Rattle.inspector.specs.declared.field.Field.{Field}
-use Rattle.inspector.specs.Reader.{begun, stepped, Stepped, stepAt, saidOfStep}
+use Rattle.inspector.specs.Reader.{Stepped, stepAt, begun, standsAt, answers, stepped, saidOfStep}
 use Rattle.inspector.specs.FieldsAt.{fieldAt}
 
 -- `Inspector::new`, `Inspector::at` and `field_at`: their promises give the result itself
 pub one-start : (file : RefT (List ℕ)) (r s : Inspector) → r ≡ begun file → s ≡ begun file → r ≡ s
 one-start file r s p q = p ∙ sym q
 
-pub one-place : (reader : Inspector) (r s : ℕ) → r ≡ reader .at → s ≡ reader .at → r ≡ s
+pub one-place : (reader : Inspector) (r s : ℕ) → r ≡ standsAt reader → s ≡ standsAt reader → r ≡ s
 one-place reader r s p q = p ∙ sym q
 
 pub one-field : (header : Header) (place : ℕ) (r s : Field) → r ≡ fieldAt header place → s ≡ fieldAt header place → r ≡ s
@@ -27,8 +26,8 @@ one-field header place r s p q = p ∙ sym q
 -- `Inspector::step`: one answer, and one reader afterwards
 pub one-step :
     (reader : Inspector) (r s : Number) (after after' : Inspector) →
-    said r ≡ readAt (now (reader .file)) (reader .at) → after ≡ stepped reader →
-    said s ≡ readAt (now (reader .file)) (reader .at) → after' ≡ stepped reader → (r ≡ s) × (after ≡ after')
+    said r ≡ answers reader → after ≡ stepped reader →
+    said s ≡ answers reader → after' ≡ stepped reader → (r ≡ s) × (after ≡ after')
 one-step reader r s after after' p move q move' = (said-once r s (p ∙ sym q), move ∙ sym move')
 
 -- `step_at`: what a step says determines the step

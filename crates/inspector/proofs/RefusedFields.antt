@@ -24,32 +24,15 @@ use Rattle.records.specs.Answers.{refuses}
 use Rattle.records.proofs.Runs.{clash, Faulty, number-at, fault-at}
 use Rattle.records.proofs.Runs.Faulty.{ended as over-here, faulty}
 use Rattle.records.proofs.Whole.{after-read, after-refused}
-use Rattle.inspector.specs.FieldsAt.{fieldAt, refusalOf}
+use Rattle.inspector.specs.FieldsAt.{fieldAt}
+use Rattle.inspector.specs.FieldsTold.{refusalDue}
+use Rattle.inspector.proofs.OneKind.{Kind, plant-kind, segment-kind, line-kind}
 use Rattle.inspector.proofs.FieldsNamed.{after-all}
-
--- ---- a record of one kind: it has so many fields, all with the same refusal; so have a plant, a segment and a line
-unfoldable Kind : {A : Type 0} → (refusal fields : ℕ) → Reader A → Type 0
-Kind refusal zero (return what) = Unit {0}
-Kind refusal zero (needs its allowed then) = ⊥
-Kind refusal (suc fields) (return what) = ⊥
-Kind refusal (suc fields) (needs its allowed then) = (its ≡ refusal) × ((value : ℕ) → Kind refusal fields (then value))
-
-plant-kind : (segments : ℕ) → Kind wrongPlant plantFields (plant segments)
-unfolding Kind plant
-plant-kind segments = (refl, λ _. (refl, λ _. (refl, λ _. tt)))
-
-segment-kind : (segments own : ℕ) → Kind wrongSegment segmentFields (segment segments own)
-unfolding Kind segment
-segment-kind segments own = (refl, λ _. (refl, λ _. (refl, λ _. tt)))
-
-line-kind : (plants segments : ℕ) → Kind wrongLine lineFields (line plants segments)
-unfolding Kind line
-line-kind plants segments = (refl, λ _. (refl, λ _. (refl, λ _. (refl, λ _. (refl, λ _. tt)))))
 
 -- ---- what is due at a place, by what the header tells
 module _ (told : Tell) where
   abbrev due : ℕ → ℕ
-  due place = refusalOf (fieldAt told place)
+  due place = refusalDue (fieldAt told place)
 
   -- from a place on, a reader refuses each field with what is due there, and what it gives at its end has a property
   unfoldable Dues : {A : Type 0} → (ℕ → A → Type 0) → ℕ → Reader A → Type 0
@@ -176,12 +159,12 @@ module _ (h : Header) where
       one-then tells _ _ _ (each (λ own. plant S) 1 P) _ (plants-due headerNumbers refl in-plants) (λ a plants p.
       one-then tells _ _ _ (each (segment S) 1 S) _ (segments-due a (omega arith) (rw p in-segments)) (λ b segments s.
       one-then tells _ _ _ (each (λ own. line P S) 1 L) _ (lines-due b (omega arith) (rw s in-lines)) (λ c lines l.
-      rw l (ap refusalOf (after-all P S L linesEnd (omega arith))))))
+      rw l (ap refusalDue (after-all P S L linesEnd (omega arith))))))
 
 -- ---- so the refusal of a file is that of the field that is named at its place, where it is none of the faults of numbers
 pub refused-field :
     {refusal place : ℕ} (file : List ℕ) → periodFile file ≡ refused refusal place → wrongEdition ≤ refusal →
-    refusalOf (fieldAt (headerOf file) place) ≡ refusal
+    refusalDue (fieldAt (headerOf file) place) ≡ refusal
 unfolding periodFile period headerOf
 refused-field {refusal} {place} file e large =
     by-header (reads header 0 (run file)) refl (λ told. comes-due told _ file header 0 0 (header-due told))

@@ -9,6 +9,9 @@ use lib.ListN.{length, drop}
 use denote.Ref.{RefT, now}
 use Rattle.number.specs.Reading.{Answer, number as oneNumber, fault as oneFault}
 use Rattle.number.specs.Counting.{startOf, numberAt}
+use Rattle.records.specs.Plants.{plantFields}
+use Rattle.records.specs.Segments.{segmentFields}
+use Rattle.records.specs.Lines.{lineFields}
 use Rattle.records.specs.Refusals.{wrongEdition, wrongCount, wrongPlant, wrongSegment, wrongLine, bytesAfter}
 use Rattle.records.specs.Run.{Run, over, number, run}
 use Rattle.records.specs.Fields.{Reader, return, needs, _>>=_, each, Read, read, refused, reads}
@@ -16,8 +19,10 @@ use Rattle.records.specs.Periods.{header, plant, segment, line, records, period
 use Rattle.records.proofs.Runs.{Faulty, ended as at-end, faulty, number-at, fault-at}
 use Rattle.records.proofs.Whole.{more-left, none-left}
 use Rattle.inspector.specs.declared.Inspector.{Inspector}
+use Rattle.inspector.specs.Reader.{stepped}
 use Rattle.inspector.specs.Walk.{Walks, there, step}
 use Rattle.inspector.specs.Consumed.{taken, consumed}
+use Rattle.inspector.proofs.OneKind.{Kind, plant-kind, segment-kind, line-kind}
 
 -- ---- a reader of fields that refuses a value only with 4 to 8
 data Fieldwise {A : Type 0} : Reader A → Type 0 where
@@ -38,7 +43,17 @@ unfolding each
 so-many fields own zero = done
 so-many fields own (suc count) = one-then (fields own) (λ first. one-then (so-many fields (suc own) count) (λ others. done))
 
--- the header, and one record of each kind
+-- a record of a kind whose refusal is one of these
+of-kind :
+    {A : Type 0} (refusal fields : ℕ) (one : Reader A) → (wrongEdition ≤ refusal) × (refusal ≤ wrongLine) → Kind refusal fields one → Fieldwise one
+unfolding Kind
+of-kind refusal zero (return what) bounds kind = done
+of-kind refusal zero (needs its allowed then) bounds kind = absurd kind
+of-kind refusal (suc fields) (return what) bounds kind = absurd kind
+of-kind refusal (suc fields) (needs its allowed then) bounds kind =
+    needed its (rw (kind .0) bounds) (λ value. of-kind refusal fields (then value) bounds (kind .1 value))
+
+-- the header, and the whole period
 header-fields : Fieldwise header
 unfolding header
 header-fields =
@@ -47,37 +62,15 @@ header-fields =
     needed wrongCount (omega arith) (λ segments.
     needed wrongCount (omega arith) (λ lines. done))))
 
-plant-fields : (segments : ℕ) → Fieldwise (plant segments)
-unfolding plant
-plant-fields segments =
-    needed wrongPlant (omega arith) (λ exported.
-    needed wrongPlant (omega arith) (λ first.
-    needed wrongPlant (omega arith) (λ fraction. done)))
-
-segment-fields : (segments own : ℕ) → Fieldwise (segment segments own)
-unfolding segment
-segment-fields segments own =
-    needed wrongSegment (omega arith) (λ kind.
-    needed wrongSegment (omega arith) (λ outflow.
-    needed wrongSegment (omega arith) (λ next. done)))
-
-line-fields : (plants segments : ℕ) → Fieldwise (line plants segments)
-unfolding line
-line-fields plants segments =
-    needed wrongLine (omega arith) (λ ownerKind.
-    needed wrongLine (omega arith) (λ owner.
-    needed wrongLine (omega arith) (λ class.
-    needed wrongLine (omega arith) (λ quantity.
-    needed wrongLine (omega arith) (λ factor. done)))))
-
--- the whole period
 period-fields : Fieldwise period
 unfolding period records
 period-fields =
     one-then header-fields (λ h.
-    one-then (so-many (λ own. plant-fields (h .segments)) 1 (h .plants)) (λ plants.
-    one-then (so-many (segment-fields (h .segments)) 1 (h .segments)) (λ segments.
-    one-then (so-many (λ own. line-fields (h .plants) (h .segments)) 1 (h .lines)) (λ lines.
+    let P = h .plants in
+    let S = h .segments in
+    one-then (so-many (λ own. of-kind wrongPlant plantFields (plant S) (omega arith) (plant-kind S)) 1 P) (λ plants.
+    one-then (so-many (λ own. of-kind wrongSegment segmentFields (segment S own) (omega arith) (segment-kind S own)) 1 S) (λ segments.
+    one-then (so-many (λ own. of-kind wrongLine lineFields (line P S) (omega arith) (line-kind P S)) 1 (h .lines)) (λ lines.
     done))))
 
 -- ---- how the reading of a file ends, after so many numbers
@@ -100,6 +93,13 @@ atByte file at = record { file = file; at = at }
 abbrev pub atNumber : RefT (List ℕ) → ℕ → Inspector
 atNumber file k = atByte file (startOf (now file) k)
 
+-- A step over a number goes from where it starts to where the next one does.
+pub steps-on :
+    (file : RefT (List ℕ)) (k : ℕ) {value next : ℕ} → numberAt (now file) k ≡ oneNumber value next →
+    stepped (atNumber file k) ≡ atNumber file (suc k)
+unfolding startOf
+steps-on file k e = rw e refl
+
 -- The walk over some values, how many numbers there are after it, and how reading ends then.
 pub record Taken {A : Type 0} (file : RefT (List ℕ)) (k : ℕ) (values : List ℕ) (outcome : Read A) : Type 0 where
   pub count : ℕ
@@ -117,13 +117,9 @@ module _ (file : RefT (List ℕ)) where
     taken-one :
         {value next : ℕ} {values : List ℕ} → numberAt (now file) k ≡ oneNumber value next → Taken file (suc k) values outcome →
         Taken file k (value ∷ values) outcome
-    unfolding startOf
-    taken-one e others = record {
-      count = others .count;
-      counted = omega (arith, others .counted);
-      walks = step e (others .walks);
-      ending = others .ending;
-    }
+    taken-one {values} e others =
+        let on : Walks (stepped (atNumber file k)) values (atNumber file (others .count)) = rw (steps-on file k e) (others .walks) in
+        record { count = others .count; counted = omega (arith, others .counted); walks = step e on; ending = others .ending }
 
   -- what is left of the file from number k on
   abbrev left : ℕ → Run
@@ -135,41 +131,41 @@ module _ (file : RefT (List ℕ)) where
   left-number k value next e = rw e (number-at (now file) (startOf (now file) k) value next e)
 
   -- the numbers that a reader of fields takes of a run, and what reading comes to with them
-  abbrev Takes : {A : Type 0} → Reader A → ℕ → Run → Type 0
-  Takes reader k run = Taken file k (taken reader run) (ended (reads reader k run))
+  abbrev InWalk : {A : Type 0} → Reader A → ℕ → Run → Type 0
+  InWalk reader k run = Taken file k (taken reader run) (ended (reads reader k run))
 
   -- which is a walk: number k has a fault, or it is taken, and the test of its field decides whether the others are
-  takes : {A : Type 0} {reader : Reader A} → Fieldwise reader → (k : ℕ) → Takes reader k (left k)
+  in-walk : {A : Type 0} {reader : Reader A} → Fieldwise reader → (k : ℕ) → InWalk reader k (left k)
   unfolding taken reads
-  takes (done {what}) k = by-end (decLe (length (now file)) at)
+  in-walk (done {what}) k = by-end (decLe (length (now file)) at)
     where
       at : ℕ
       at = startOf (now file) k
 
-      by-end : Dec (length (now file) ≤ at) → Takes (return what) k (left k)
+      by-end : Dec (length (now file) ≤ at) → InWalk (return what) k (left k)
       by-end (yes h) = rw (none-left what k (now file) at h) (taken-none (all-read h))
       by-end (no h) = rw (more-left what k (now file) at (omega arith)) (taken-none (bytes-left (omega arith)))
-  takes {A} (needed refusal {allowed} {then} bounds more) k = by-number (numberAt (now file) k) refl (λ value. takes (more value) (suc k))
+  in-walk {A} (needed refusal {allowed} {then} bounds more) k = by-number (numberAt (now file) k) refl (λ value. in-walk (more value) (suc k))
     where
       this : Reader A
       this = needs refusal allowed then
 
-      by-fault : {run : Run} {found : ℕ} → numberAt (now file) k ≡ oneFault found → Faulty run found → Takes this k run
+      by-fault : {run : Run} {found : ℕ} → numberAt (now file) k ≡ oneFault found → Faulty run found → InWalk this k run
       by-fault e at-end = taken-none (has-fault e)
       by-fault e faulty = taken-none (has-fault e)
 
       by-test :
-          {value next : ℕ} (t : Bool) → numberAt (now file) k ≡ oneNumber value next → allowed value ≡ t → Takes (then value) (suc k) (left (suc k)) →
-          Takes this k (number value (left (suc k)))
+          {value next : ℕ} (t : Bool) → numberAt (now file) k ≡ oneNumber value next → allowed value ≡ t → InWalk (then value) (suc k) (left (suc k)) →
+          InWalk this k (number value (left (suc k)))
       by-test true e h others = rw h (taken-one e others)
       by-test false e h others = rw h (taken-one e (taken-none (not-allowed bounds refl)))
 
       by-number :
-          (a : Answer) → numberAt (now file) k ≡ a → ((value : ℕ) → Takes (then value) (suc k) (left (suc k))) → Takes this k (left k)
+          (a : Answer) → numberAt (now file) k ≡ a → ((value : ℕ) → InWalk (then value) (suc k) (left (suc k))) → InWalk this k (left k)
       by-number (oneFault found) e others = by-fault e (fault-at (now file) (startOf (now file) k) found e)
       by-number (oneNumber value next) e others = rw (left-number k value next e) (by-test (allowed value) e refl (others value))
 
   -- the whole file, from its first number on
-  pub period-takes : Taken file 0 (consumed (now file)) (periodFile (now file))
+  pub period-walked : Taken file 0 (consumed (now file)) (periodFile (now file))
   unfolding consumed periodFile startOf
-  period-takes = takes period-fields 0
+  period-walked = in-walk period-fields 0

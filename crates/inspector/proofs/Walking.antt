@@ -10,7 +10,7 @@ use native.Mathlib.Omega.{arith}
 use lib.ListN.{length, getD, take, drop, take-append-drop}
 use denote.Ref.{RefT, now}
 use Rattle.number.specs.Reading.{Answer, number as oneNumber, fault as oneFault, readAt, ends, tooLarge}
-use Rattle.number.specs.Counting.{endOf, startOf, numberAt, valueAt}
+use Rattle.number.specs.Counting.{startOf, numberAt, valueAt}
 use Rattle.number.proofs.Laws.{bounds, past-end, faults, what-follows}
 use Rattle.records.specs.Refusals.{wrongEdition, wrongLine, bytesAfter}
 use Rattle.records.specs.Run.{Run}
@@ -23,45 +23,45 @@ use Rattle.accounts.specs.Accepted.{Accepted, held}
 use Rattle.accounts.proofs.Testing.{refused-not-accepted}
 use Rattle.accounts.proofs.Numbered.{from-reading}
 use Rattle.inspector.specs.declared.Inspector.{Inspector}
-use Rattle.inspector.specs.Reader.{begun, stepped}
+use Rattle.inspector.specs.Reader.{stepAt, begun, answers, stepped}
 use Rattle.inspector.specs.Walk.{Walks, there, step, Walked, Stops}
 use Rattle.inspector.specs.Consumed.{consumed}
 use Rattle.inspector.specs.Numbers.{numbersOf}
 use Rattle.inspector.proofs.NumbersTaken.{accepted-consumed}
-use Rattle.inspector.proofs.Taking.{Ending, all-read, bytes-left, has-fault, not-allowed, atByte, atNumber, period-takes}
+use Rattle.inspector.proofs.Taking.{Ending, all-read, bytes-left, has-fault, not-allowed, atByte, atNumber, steps-on, period-walked}
 
 -- ---- where a walk ends
 -- each step goes from where a number starts to where the next one does
 stands-from :
-    {file : RefT (List ℕ)} {values : List ℕ} {last : Inspector} (k end : ℕ) → k + length values ≡ end → Walks (atNumber file k) values last →
-    last ≡ atNumber file end
-unfolding startOf
-stands-from k end e there = let is : k ≡ end = omega (arith, e) in rw is refl
-stands-from k end e (step answer more) = stands-from (suc k) end (omega (arith, e)) more
+    (file : RefT (List ℕ)) {values : List ℕ} {reader last : Inspector} (k end : ℕ) → k + length values ≡ end → reader ≡ atNumber file k →
+    Walks reader values last → last ≡ atNumber file end
+stands-from file k end e is there = let same : k ≡ end = omega (arith, e) in rw (← same) is
+stands-from file k end e is (step answer more) =
+    stands-from file (suc k) end (omega (arith, e)) (ap stepped is ∙ steps-on file k (rw is at answer)) more
 
 -- after so many steps the reader stands where that number of the file starts
 pub stands :
     {file : RefT (List ℕ)} {values : List ℕ} {last : Inspector} → Walks (begun file) values last →
     last ≡ record { file = file; at = startOf (now file) (length values) }
 unfolding startOf
-stands {values} walks = stands-from 0 (length values) (omega arith) walks
+stands {file} {values} walks = stands-from file 0 (length values) (omega arith) refl walks
 
 -- and the values are those of the file's numbers
 value-from :
-    {file : RefT (List ℕ)} {values : List ℕ} {last : Inspector} (k : ℕ) → Walks (atNumber file k) values last → (i : ℕ) → i < length values →
-    valueAt (now file) (k + i) ≡ getD values i 0
-unfolding startOf valueAt
-value-from k there i h = absurd (omega (arith, h))
-value-from k (step answer more) zero h = rw (add-zero k, answer)
-value-from k (step answer more) (suc i) h =
+    (file : RefT (List ℕ)) {values : List ℕ} {reader last : Inspector} (k i : ℕ) → reader ≡ atNumber file k → Walks reader values last →
+    i < length values → valueAt (now file) (k + i) ≡ getD values i 0
+unfolding valueAt
+value-from file k i is there h = absurd (omega (arith, h))
+value-from file k zero is (step answer more) h = let here = rw is at answer in rw (add-zero k, here)
+value-from file k (suc i) is (step answer more) h =
     let next : k + suc i ≡ suc k + i = omega arith in
-    rw next (value-from (suc k) more i (omega (arith, h)))
+    rw next (value-from file (suc k) i (ap stepped is ∙ steps-on file k (rw is at answer)) more (omega (arith, h)))
 
 pub walked-value :
     {file : RefT (List ℕ)} {values : List ℕ} {last : Inspector} → Walks (begun file) values last → (k : ℕ) → k < length values →
     valueAt (now file) k ≡ getD values k 0
 unfolding startOf
-walked-value walks k h = rw zero-add at (value-from 0 walks k h)
+walked-value {file} walks k h = rw zero-add at (value-from file 0 k refl walks h)
 
 -- at a fault a walk stops: the next step says the fault, and the reader stays
 stopped :
@@ -69,11 +69,31 @@ stopped :
     readAt (now file) at ≡ oneFault found → Stops file values found at
 stopped {last} walks is e = record { last = last; walks = walks; stands = is; fault = rw is e; stays = rw (is, e) refl }
 
+-- ---- a walk that stops is the only one
+-- where a step answers a number, it answers no fault
+one-from :
+    {reader last last' : Inspector} {values values' : List ℕ} {found found' : ℕ} → Walks reader values last → answers last ≡ oneFault found →
+    Walks reader values' last' → answers last' ≡ oneFault found' → (values ≡ values') × (last ≡ last')
+one-from there stop there stop' = (refl, refl)
+one-from there stop (step answer' more') stop' = clash (cc)
+one-from (step answer more) stop there stop' = clash (cc)
+one-from (step {value} answer more) stop (step {value = value'} answer' more') stop' =
+    let (others, end) = one-from more stop more' stop' in
+    let same : value ≡ value' = cc in
+    (rw (same, others), end)
+
+pub one-walk :
+    {file : RefT (List ℕ)} {values values' : List ℕ} {refusal refusal' at at' : ℕ} → Stops file values refusal at → Stops file values' refusal' at' →
+    (values ≡ values') × (refusal ≡ refusal') × (at ≡ at')
+one-walk a b =
+    let (values-are, end) = one-from (a .walks) (a .fault) (b .walks) (b .fault) in
+    (values-are, cc (ap answers end, a .fault, b .fault), ap (λ (reader : Inspector). reader .at) (sym (a .stands) ∙ end ∙ b .stands))
+
 -- ---- the numbers that the period's reading consumed
 -- the walk from the start gives them
 pub consumed-walked : (file : RefT (List ℕ)) → Walked file (consumed (now file))
 unfolding startOf
-consumed-walked file = let all = period-takes file in record { last = atNumber file (all .count); walks = all .walks }
+consumed-walked file = let all = period-walked file in record { last = atNumber file (all .count); walks = all .walks }
 
 module _ (file : RefT (List ℕ)) where
   -- how many they are, and where the next one starts
@@ -86,7 +106,7 @@ module _ (file : RefT (List ℕ)) where
   -- reading ended after them
   ending : Ending (now file) steps (periodFile (now file))
   ending =
-      let all = period-takes file in
+      let all = period-walked file in
       let count-is : all .count ≡ steps = omega (arith, all .counted) in
       rw count-is at (all .ending)
 
@@ -188,16 +208,16 @@ module _ (file : RefT (List ℕ)) (plantTable segmentTable : ℕ) where
       (count-is, rw count-is at (consumed-stops file e))
 
   -- 4 to 8: the walk gives the refused number as its last
-  pub field-refused-walked :
+  pub field-refused-counted :
       (number place : ℕ) → quantified (now file) plantTable segmentTable ≡ refusal number place → wrongEdition ≤ number → number ≤ wrongLine →
       length (consumed (now file)) ≡ suc place
-  field-refused-walked number place is least most = field-ending least most (refused-ending number place is (omega (arith, most)))
+  field-refused-counted number place is least most = field-ending least most (refused-ending number place is (omega (arith, most)))
 
   -- 9: the walk gives as many numbers as the place says, and the reader then stands before the end
-  pub bytes-after-walked :
+  pub bytes-after-counted :
       (place : ℕ) → quantified (now file) plantTable segmentTable ≡ refusal bytesAfter place →
       (length (consumed (now file)) ≡ place) × (startOf (now file) place < length (now file))
-  bytes-after-walked place is =
+  bytes-after-counted place is =
       let (count-is, before) = after-ending (refused-ending bytesAfter place is (omega arith)) in
       (count-is, rw count-is at before)
 
@@ -230,7 +250,7 @@ module _ (file short : RefT (List ℕ)) (count : ℕ) (cut : now short ≡ take 
   cut-walks at there = there
   cut-walks at (step {last} {values} e more) =
       let same = same-answer at (λ f. clash cc) in
-      let on : Walks (stepped (atByte file at)) values (atByte file (last .at)) = rw same (cut-walks (endOf at (readAt (now short) at)) more) in
+      let on : Walks (stepped (atByte file at)) values (atByte file (last .at)) = rw same (cut-walks (stepAt (now short) at .at) more) in
       step (same ∙ e) on
 
   -- numbers that are whole in the first bytes are the file's own

@@ -2,14 +2,10 @@
 use Prim.Native.Nat.{ℕ}
 use mathlib.Core.Path.{_≡_}
 use mathlib.Core.List.{List, [], _∷_}
-use denote.Ref.{RefT, now}
-use Rattle.number.specs.Reading.{Answer, number, fault as oneFault, readAt}
+use denote.Ref.{RefT}
+use Rattle.number.specs.Reading.{number, fault as oneFault}
 use Rattle.inspector.specs.declared.Inspector.{Inspector}
-use Rattle.inspector.specs.Reader.{begun, stepped}
-
--- What the next step of a reader answers.
-abbrev pub answers : Inspector → Answer
-answers reader = readAt (now (reader .file)) (reader .at)
+use Rattle.inspector.specs.Reader.{begun, answers, stepped}
 
 -- From one reader to another, step by step: each step answers a number, and these are their values in order.
 pub data Walks : Inspector → List ℕ → Inspector → Type 0 where
@@ -18,7 +14,7 @@ pub data Walks : Inspector → List ℕ → Inspector → Type 0 where
       {reader last : Inspector} {value next : ℕ} {values : List ℕ} → answers reader ≡ number value next →
       Walks (stepped reader) values last → Walks reader (value ∷ values) last
 
--- A walk from the start of a file that gives these values.
+-- A walk from the start of a file that gives these values; it may go on behind them.
 pub record Walked (file : RefT (List ℕ)) (values : List ℕ) : Type 0 where
   pub last : Inspector
   pub walks : Walks (begun file) values last

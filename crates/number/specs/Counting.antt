@@ -17,6 +17,7 @@ startOf file (suc k) = endOf (startOf file k) (readAt file (startOf file k))
 abbrev pub numberAt : List ℕ → ℕ → Answer
 numberAt file k = readAt file (startOf file k)
 
+-- Its value, and 0 where it has a fault.
 abbrev pub valueIn : Answer → ℕ
 valueIn (number value next) = value
 valueIn (fault refusal) = 0

@@ -10,6 +10,8 @@ const SHOWN_WRONG: usize = 5;
 #[derive(Debug)]
 pub struct Comparison {
     tally: Tally,
+    /// What is counted besides, without labels if nothing is.
+    besides: Tally,
     /// How many cases were asked.
     asked: usize,
     /// How many of them were answered.
@@ -29,6 +31,7 @@ impl Comparison {
     pub fn new(labels: &[&'static str]) -> Self {
         Comparison {
             tally: Tally::new(labels),
+            besides: Tally::new(&[]),
             asked: 0,
             answered: 0,
             differ: 0,
@@ -36,6 +39,17 @@ impl Comparison {
             missing: None,
             faults: Vec::new(),
         }
+    }
+
+    /// The same comparison, which counts something besides, with these labels.
+    pub fn counting_besides(self, labels: &[&'static str]) -> Self {
+        let besides = Tally::new(labels);
+        Comparison { besides, ..self }
+    }
+
+    /// Counts a case by what its answer is besides.
+    pub fn add_besides(&mut self, label: &str) {
+        self.besides.add(label);
     }
 
     /// Takes in a case whose answer, of this label, came as expected.
@@ -98,15 +112,15 @@ impl Comparison {
     /// Reports on the suite: one line, and below it what is wrong, if anything.
     pub fn write_report(&self, name: &str, report: &mut impl Write) -> io::Result<()> {
         let Comparison {
-            tally,
             asked,
             answered,
             differ,
             ..
         } = self;
+        let counts = self.counts();
         writeln!(
             report,
-            "{name}: {answered} answers compared, {differ} differ ({tally})"
+            "{name}: {answered} answers compared, {differ} differ ({counts})"
         )?;
         for difference in self.wrong.iter().chain(&self.missing) {
             writeln!(report, "  {difference}")?;
@@ -118,6 +132,13 @@ impl Comparison {
             writeln!(report, "  {fault}")?;
         }
         Ok(())
+    }
+
+    /// How often each answer is expected, and each of what is counted besides.
+    fn counts(&self) -> String {
+        let mut counts = vec![self.tally.to_string(), self.besides.to_string()];
+        counts.retain(|tally| !tally.is_empty());
+        counts.join("; ")
     }
 }
 
@@ -142,6 +163,19 @@ mod tests {
         assert_eq!(
             report_on(&comparison),
             "some suite: 2 answers compared, 0 differ (A 1, R1 1)\n"
+        );
+    }
+
+    #[test]
+    fn what_is_counted_besides_need_not_be_met() {
+        let mut comparison = Comparison::new(&["E"]).counting_besides(&["read", "R1"]);
+        comparison.add_equal("E");
+        comparison.add_besides("R1");
+        comparison.require_each_answer(1);
+        assert!(comparison.passed());
+        assert_eq!(
+            report_on(&comparison),
+            "some suite: 1 answers compared, 0 differ (E 1; read 0, R1 1)\n"
         );
     }
 

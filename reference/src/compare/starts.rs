@@ -9,10 +9,13 @@ use std::process::{Output, Stdio};
 
 /// Starts the program once for each file and compares what it prints.
 pub fn compare_starts<F: FileToPrint>(files: &[F], program: &Program) -> io::Result<Comparison> {
-    let mut comparison = Comparison::new(F::LABELS);
+    let mut comparison = Comparison::new(F::LABELS).counting_besides(F::LABELS_BESIDES);
     for file in files {
         let output = program.run(file.file(), Stdio::piped())?;
         let expected = file.printed();
+        if let Some(label) = F::label_besides(&expected) {
+            comparison.add_besides(&label);
+        }
         let label = F::label_of(&expected);
         match difference(&expected, &output) {
             None => comparison.add_equal(&label),

@@ -1,16 +1,16 @@
--- `inspect::main` is safe and ends: the bytes that were read stand at the start of the room. Assumes nothing.
+-- `inspect::main` is safe and ends: the bytes that are walked, all that were read or all but the last, stand at the start of the room. Assumes
+-- nothing.
+use mathlib.Core.Path.{sym}
+use lib.Seq.{length-take-le}
 use borrow.Author.Needs.{needs}
-use Rattle.io.specs.Counts.{Counts}
 use Rattle.inspect.proofs.main.Statement.{statement}
 use Rattle.inspect.proofs.main.Tie as tie
 
--- ---- what is known when a file was read
-stands : (c : tie.After-input) → Counts (c .input .given .0 .0) (c .before .before .before .read-input .last .0)
-stands c = rw (c .input .given .1) at (c .before .before .before .read-input .ensures)
-
--- ---- the needs
 large-buffer-requires : tie.Need-large-buffer-requires
 large-buffer-requires c κs = search needs
+
+sub-most : tie.Need-sub-most
+sub-most c = search needs
 
 slice-aggregate-read-input : tie.Need-slice-aggregate-read-input
 slice-aggregate-read-input c = search needs
@@ -31,13 +31,22 @@ returns : tie.Need-returns
 returns c = search needs
 
 array-share-prefix-room : tie.Need-array-share-prefix-room
-array-share-prefix-room c = stands (c .before) .0
+array-share-prefix-room c = search needs
 
 slice-aggregate-print-page : tie.Need-slice-aggregate-print-page
-slice-aggregate-print-page c = stands (c .before .before) .1
+slice-aggregate-print-page c = sym (length-take-le _ (c .before .before .before .before .before .before .read-input .last .0) (array-share-prefix-room (c .before)))
 
 print-page-requires : tie.Need-print-page-requires
 print-page-requires c κs = search needs
+
+array-share-prefix-room-2 : tie.Need-array-share-prefix-room-2
+array-share-prefix-room-2 c = search needs
+
+slice-aggregate-print-page-2 : tie.Need-slice-aggregate-print-page-2
+slice-aggregate-print-page-2 c = sym (length-take-le _ (c .before .before .before .before .before .before .read-input .last .0) (array-share-prefix-room-2 (c .before)))
+
+print-page-requires-2 : tie.Need-print-page-requires-2
+print-page-requires-2 c κs = search needs
 
 say-unwritten-requires : tie.Need-say-unwritten-requires
 say-unwritten-requires c κs = search needs
@@ -53,6 +62,7 @@ main-spec =
     tie.close
     (tie.spec
     large-buffer-requires
+    sub-most
     slice-aggregate-read-input
     read-input-requires
     enum-known-input
@@ -62,6 +72,9 @@ main-spec =
     array-share-prefix-room
     slice-aggregate-print-page
     print-page-requires
+    array-share-prefix-room-2
+    slice-aggregate-print-page-2
+    print-page-requires-2
     say-unwritten-requires
     returns-2
     returns-3)

@@ -74,8 +74,9 @@ mod tests {
             let rows = account(&file, Tables::LARGE_ENOUGH);
             assert!(rows.is_ok(), "{rows:?}");
             let length = file.len() as u64;
-            let end = inspect(&file).end;
-            assert!(matches!(end, End::OfFile { byte, .. } if byte == length));
+            let page = inspect(&file);
+            assert_eq!(page.refused, None);
+            assert!(matches!(page.end, End::OfFile { byte, .. } if byte == length));
         }
     }
 

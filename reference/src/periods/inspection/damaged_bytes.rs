@@ -109,6 +109,7 @@ mod tests {
             let page = inspect(&file).to_string();
             assert!(page.contains("\n26 37 "), "{page}");
             assert!(page.contains(" after the last number\n"), "{page}");
+            assert!(page.contains("\nR 9 26\n"), "{page}");
         }
     }
 }

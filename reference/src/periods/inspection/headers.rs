@@ -101,6 +101,7 @@ fn several_not_allowed() -> Vec<Vec<u8>> {
 mod tests {
     use super::*;
     use crate::periods::inspection::page::inspect;
+    use crate::periods::inspection::page::pages_checked::closing;
 
     /// The values that are tried at this place of the header.
     fn tried_at(place: usize) -> Vec<u64> {
@@ -119,23 +120,48 @@ mod tests {
     }
 
     #[test]
-    fn pages_end_as_the_header_tells() {
-        let ends_with = |place, value| {
-            with_header_number(place, value).map(|file| inspect(&file).end.to_string())
-        };
+    fn pages_close_as_the_header_tells() {
+        let closings = |place, value| with_header_number(place, value).map(|file| closing(&file));
         // 16 plants, 2 segments, 2 lines: 4 + 16 * 3 + 2 * 3 + 2 * 5 = 68 numbers of a byte.
         assert_eq!(
-            ends_with(1, 16),
-            ["R 1 2", "R 1 4", "R 1 67", "E 69 69", "E 68 68"]
+            closings(1, 16),
+            [
+                "R 1 2, E 2 2",
+                "R 1 4, E 4 4",
+                "R 1 67, E 67 67",
+                "R 9 68, E 69 69",
+                "E 68 68",
+            ]
         );
         assert_eq!(
-            ends_with(1, 17),
-            ["R 1 2", "E 4 4", "R 1 25", "E 27 38", "E 26 37"]
+            closings(1, 17),
+            [
+                "R 5 1, E 2 2",
+                "R 5 1, E 4 4",
+                "R 5 1, F 1 25",
+                "R 5 1, E 27 38",
+                "R 5 1, E 26 37",
+            ]
         );
         assert_eq!(
-            ends_with(3, 513),
-            ["E 4 5", "E 4 5", "R 1 25", "E 27 39", "E 26 38"]
+            closings(3, 513),
+            [
+                "R 5 3, E 4 5",
+                "R 5 3, E 4 5",
+                "R 5 3, F 1 25",
+                "R 5 3, E 27 39",
+                "R 5 3, E 26 38",
+            ]
         );
+    }
+
+    #[test]
+    fn first_number_that_is_not_allowed_is_refused() {
+        let closing_of = |places: &[usize]| closing(&write_numbers(&not_allowed_at(places)));
+        assert_eq!(closing_of(&[0, 1, 2, 3]), "R 4 0, E 26 38");
+        assert_eq!(closing_of(&[1, 2, 3]), "R 5 1, E 26 38");
+        assert_eq!(closing_of(&[2, 3]), "R 5 2, E 26 38");
+        assert_eq!(closing_of(&[3]), "R 5 3, E 26 38");
     }
 
     #[test]
@@ -147,7 +173,15 @@ mod tests {
 
     #[test]
     fn faults_are_told_behind_a_header_that_is_not_allowed() {
-        let ends = faults_behind(&not_allowed_at(&[0])).map(|file| inspect(&file).end.to_string());
-        assert_eq!(ends, ["R 1 5", "R 2 5", "R 3 5", "R 3 5"]);
+        let closings = faults_behind(&not_allowed_at(&[0])).map(|file| closing(&file));
+        assert_eq!(
+            closings,
+            [
+                "R 4 0, F 1 5",
+                "R 4 0, F 2 5",
+                "R 4 0, F 3 5",
+                "R 4 0, F 3 5"
+            ]
+        );
     }
 }

@@ -1,6 +1,7 @@
 //! Files as long as the buffer and longer, with whole numbers and faults around the cut.
 
 use super::page::BUFFER_BYTES;
+use super::refused_fields::with_field_not_allowed;
 use crate::numbers::number::{padded, write_number, LIMIT, MORE_FOLLOW, MOST_GROUPS};
 use crate::periods::suites::whole_files::{longest, SMALLEST};
 use crate::periods::writing::write_numbers;
@@ -26,6 +27,7 @@ pub fn long_files() -> Vec<Vec<u8>> {
         with_fault_around_cut(),
         of_one_byte_numbers_and_a_fault(),
         of_other_starts(),
+        behind_refused_fields(),
     ]
     .concat()
 }
@@ -147,10 +149,18 @@ fn of_other_starts() -> Vec<Vec<u8>> {
     ]
 }
 
+/// Periods that are refused for a field, with numbers of one byte far behind the cut.
+fn behind_refused_fields() -> Vec<Vec<u8>> {
+    with_field_not_allowed()
+        .map(|numbers| brought_to(write_numbers(&numbers), LONG))
+        .to_vec()
+}
+
 #[cfg(test)]
 mod tests {
     use super::*;
     use crate::periods::inspection::page::inspect;
+    use crate::periods::inspection::page::pages_checked::closing;
 
     /// The last lines of the files' pages.
     fn ends(files: &[Vec<u8>]) -> Vec<String> {
@@ -197,7 +207,7 @@ mod tests {
                 "E 13118 65535",
                 "C 13118 65535",
                 "C 13118 65535", // 300 at 65,533
-                "R 1 13118",
+                "F 1 13118",
                 "C 13118 65534",
                 "C 13118 65534", // 300 at 65,534
                 "E 13115 65535",
@@ -206,16 +216,16 @@ mod tests {
                 "E 13115 65535",
                 "C 13115 65535",
                 "C 13115 65535", // the limit at 65,530
-                "R 1 13115",
+                "F 1 13115",
                 "C 13115 65531",
                 "C 13115 65531", // at 65,531
-                "R 1 13116",
+                "F 1 13116",
                 "C 13116 65532",
                 "C 13116 65532", // at 65,532
-                "R 1 13117",
+                "F 1 13117",
                 "C 13117 65533",
                 "C 13117 65533", // at 65,533
-                "R 1 13118",
+                "F 1 13118",
                 "C 13118 65534",
                 "C 13118 65534", // at 65,534
                 "E 13115 65535",
@@ -232,8 +242,8 @@ mod tests {
             .chunks(7)
             .map(|chunk| chunk.iter().map(|end| &end[..3]).collect())
             .collect();
-        let of_fault_2 = ["R 2", "R 2", "R 2", "C 1", "C 1", "R 2", "C 1"];
-        let of_fault_3 = ["R 3", "R 3", "R 3", "C 1", "C 1", "R 3", "C 1"];
+        let of_fault_2 = ["F 2", "F 2", "F 2", "C 1", "C 1", "F 2", "C 1"];
+        let of_fault_3 = ["F 3", "F 3", "F 3", "C 1", "C 1", "F 3", "C 1"];
         assert_eq!(
             letters,
             [of_fault_2, of_fault_2, of_fault_3, of_fault_3, of_fault_3]
@@ -247,7 +257,7 @@ mod tests {
     fn other_files_end_as_they_should() {
         assert_eq!(
             ends(&of_one_byte_numbers_and_a_fault()),
-            ["R 2 65533", "C 65534 65534", "R 3 65530", "C 65531 65531"]
+            ["F 2 65533", "C 65534 65534", "F 3 65530", "C 65531 65531"]
         );
         // The longest period has 2,708 numbers in 7,029 bytes; two more numbers of one byte and
         // 11,700 of five come before the one that straddles the cut.
@@ -257,8 +267,46 @@ mod tests {
                 "E 13107 65535",
                 "C 13107 65535",
                 "C 14410 65531",
-                "R 3 0",
+                "F 3 0",
                 "C 13115 65535",
+            ]
+        );
+    }
+
+    /// The refusals of all these files, if they are the same.
+    fn refusal_of_all(files: &[Vec<u8>]) -> String {
+        let refusal = |file: &Vec<u8>| inspect(file).refused.map(|refused| refused.to_string());
+        let first = refusal(&files[0]);
+        assert!(files.iter().all(|file| refusal(file) == first));
+        first.expect("no period is so long")
+    }
+
+    #[test]
+    fn files_are_refused_for_what_they_start_with() {
+        let files = of_whole_numbers();
+        let (behind_period, behind_header) = files.split_at(files.len() / 2);
+        assert_eq!(refusal_of_all(behind_period), "R 9 10");
+        assert_eq!(refusal_of_all(behind_header), "R 4 0");
+        assert_eq!(refusal_of_all(&with_number_around_cut()), "R 9 10");
+        assert_eq!(refusal_of_all(&with_fault_around_cut()), "R 9 10");
+        let others: Vec<String> = of_other_starts().chunks(1).map(refusal_of_all).collect();
+        assert_eq!(others, ["R 4 0", "R 4 0", "R 9 2708", "R 3 0", "R 9 10"]);
+    }
+
+    #[test]
+    fn fields_that_are_not_allowed_are_refused_and_walked_past() {
+        // 26 numbers in 37 bytes, then numbers of one byte.
+        let closings: Vec<String> = behind_refused_fields()
+            .iter()
+            .map(|file| closing(file))
+            .collect();
+        assert_eq!(
+            closings,
+            [
+                "R 5 1, C 65524 65535",
+                "R 6 5, C 65524 65535",
+                "R 7 10, C 65524 65535",
+                "R 8 17, C 65524 65535",
             ]
         );
     }

@@ -9,6 +9,7 @@ mod headers;
 mod long_files;
 mod named_field;
 pub mod page;
+mod refused_fields;
 mod values;
 
 use super::paper::proved_files;
@@ -41,10 +42,7 @@ pub fn inspection_suites() -> Vec<Suite<InspectedFile>> {
             "inspections, bytes after the whole period",
             damaged_bytes::bytes_after(),
         ),
-        suite(
-            "inspections, every fault at every place",
-            faults::every_fault_at_every_place(),
-        ),
+        suite("inspections, every fault at every place", faults::faults()),
         suite(
             "inspections, headers at their limits and past them",
             headers::headers(),
@@ -83,34 +81,101 @@ mod tests {
     use crate::compare::tally::Tally;
     use crate::questions::suites_checked::assert_same_cases;
     use crate::questions::FileToPrint;
+    use page::inspect;
+    use std::collections::BTreeSet;
 
     /// The ends of pages that each suite must meet, and how often at least.
-    const MET: [(&[&str], usize); 10] = [
-        (&["E", "R1", "R2", "R3"], 1),
+    const ENDS_MET: [(&[&str], usize); 10] = [
+        (&["F2", "F3", "E"], 1),
         (&["E"], 60),
-        (&["E", "R1"], 1),
-        (&["E", "R1", "R2", "R3"], 3),
-        (&["E", "R1", "R2", "R3"], 1),
-        (&["R1", "R2", "R3"], 50),
-        (&["E", "R1", "R2", "R3"], 4),
-        (&["E"], 70),
-        (&["E", "R1", "R2", "R3"], 1),
+        (&["F1", "E"], 10),
+        (&["F1", "F2", "F3", "E"], 3),
+        (&["F1", "F2", "F3", "E"], 1),
+        (&["F1", "F2", "F3"], 50),
+        (&["F1", "F2", "F3", "E"], 4),
+        (&["E"], 60),
+        (&["F1", "F2", "F3", "E"], 1),
         (InspectedFile::LABELS, EACH_END_AT_LEAST),
     ];
 
+    /// What reading must say of the files of each suite, and how often at least.
+    const READINGS_MET: [(&[&str], usize); 10] = [
+        (&["read", "R1", "R2", "R3", "R4", "R5", "R7", "R9"], 1),
+        (&["read"], 60),
+        (&["read", "R1"], 1),
+        (InspectedFile::LABELS_BESIDES, 3),
+        (&["R9"], 15),
+        (&["R1", "R2", "R3", "R5", "R6", "R7", "R8", "R9"], 3),
+        (&["read", "R1", "R4", "R5", "R9"], 10),
+        (&["read", "R6", "R7", "R8"], 5),
+        (&["R1", "R3", "R4", "R5", "R6", "R7", "R8", "R9"], 1),
+        (&["R3", "R4", "R5", "R6", "R7", "R8", "R9"], 1),
+    ];
+
+    /// How often the pages of the files have each label, of one sort or of the other.
+    fn tally_of(files: &[InspectedFile]) -> Tally {
+        let labels = [InspectedFile::LABELS, InspectedFile::LABELS_BESIDES].concat();
+        let mut tally = Tally::new(&labels);
+        for page in files.iter().map(FileToPrint::printed) {
+            tally.add(&InspectedFile::label_of(&page));
+            tally.add(&InspectedFile::label_besides(&page).expect("every page has both"));
+        }
+        tally
+    }
+
     #[test]
-    fn suites_meet_each_end_they_can() {
+    fn suites_meet_each_end_and_each_reading_they_can() {
         let suites = inspection_suites();
-        assert_eq!(suites.len(), MET.len());
-        for (Suite { name, cases, .. }, (labels, at_least)) in suites.iter().zip(MET) {
-            let mut tally = Tally::new(InspectedFile::LABELS);
-            for file in cases {
-                tally.add(&InspectedFile::label_of(&file.printed()));
-            }
-            for label in labels {
-                assert!(tally.count(label) >= at_least, "{name}: {tally}");
+        for met in [ENDS_MET, READINGS_MET] {
+            assert_eq!(suites.len(), met.len());
+            for (Suite { name, cases, .. }, (labels, at_least)) in suites.iter().zip(met) {
+                let tally = tally_of(cases);
+                for label in labels {
+                    assert!(tally.count(label) >= at_least, "{name}: {tally}");
+                }
             }
         }
+    }
+
+    /// The places at which reading refuses files of all suites for the reason of this number.
+    fn places_refused(number: u8) -> BTreeSet<usize> {
+        let suites = inspection_suites();
+        let files = suites.iter().flat_map(|suite| &suite.cases);
+        files
+            .filter_map(|file| inspect(&file.0).refused)
+            .filter(|refused| refused.reason as u8 == number)
+            .map(|refused| refused.place)
+            .collect()
+    }
+
+    #[test]
+    fn each_refusal_of_reading_comes_at_several_places() {
+        assert_eq!(places_refused(4), BTreeSet::from([0]), "the edition's");
+        assert_eq!(places_refused(5), BTreeSet::from([1, 2, 3]), "the counts'");
+        for number in [1, 2, 3, 6, 7, 8, 9] {
+            let places = places_refused(number);
+            assert!(places.len() >= 5, "{number} at {places:?}");
+        }
+    }
+
+    /// A file that is read is walked to its end, and one with the refusal 1, 2 or 3 up to there.
+    /// Past the other refusals the walk goes on, and can end in every way.
+    #[test]
+    fn every_end_comes_with_every_reading_it_can() {
+        let mut pairs = BTreeSet::new();
+        for Suite { cases, .. } in inspection_suites() {
+            for page in cases.iter().map(FileToPrint::printed) {
+                let reading = InspectedFile::label_besides(&page).unwrap_or_default();
+                pairs.insert(format!("{reading} {}", InspectedFile::label_of(&page)));
+            }
+        }
+        let mut expected =
+            BTreeSet::from(["read E", "R1 E", "R1 F1", "R2 F2", "R3 F3"].map(str::to_string));
+        for refusal in ["R4", "R5", "R6", "R7", "R8", "R9"] {
+            let ends = InspectedFile::LABELS.iter();
+            expected.extend(ends.map(|end| format!("{refusal} {end}")));
+        }
+        assert_eq!(pairs, expected);
     }
 
     #[test]

@@ -40,14 +40,6 @@ impl NamedField {
             _ => NamedField::OfHeader(numbers.len()),
         }
     }
-
-    /// True if a file must not end before a number of this field.
-    pub fn is_needed(self) -> bool {
-        match self {
-            NamedField::OfHeader(_) | NamedField::OfRecord(_) => true,
-            NamedField::NotTold | NamedField::AfterLast => false,
-        }
-    }
 }
 
 /// True if each number of the header, which must be whole, is allowed.
@@ -148,16 +140,5 @@ mod tests {
             let name = name_after(&WHOLE_PERIOD[..place]);
             assert_eq!(name_after(&out_of_range[..place]), name);
         }
-    }
-
-    #[test]
-    fn file_may_end_where_the_header_tells_of_no_number() {
-        let needed = |numbers: &[u64]| NamedField::after(numbers).is_needed();
-        for place in 0..WHOLE_PERIOD.len() {
-            assert!(needed(&WHOLE_PERIOD[..place]), "place {place}");
-        }
-        assert!(!needed(&WHOLE_PERIOD));
-        assert!(needed(&[2, 2, 2]), "the header is not whole");
-        assert!(!needed(&[2, 2, 2, 2]), "the header is not allowed");
     }
 }

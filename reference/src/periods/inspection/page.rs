@@ -1,8 +1,10 @@
-//! The inspector's page: a walk through a file number by number, and how it ends.
+//! The inspector's page: a walk through a file number by number, whether the period's reading
+//! refuses the file, and how the walk ends.
 
 use super::named_field::NamedField;
 use crate::numbers::number::{read_number, Reading, Refusal};
-use crate::periods::refusal::{Reason, Refused};
+use crate::periods::reading::read_period;
+use crate::periods::refusal::Refused;
 use std::fmt;
 
 /// How many bytes of a file are walked; a longer file is cut.
@@ -24,9 +26,9 @@ struct Step {
 /// How the walk ends.
 #[derive(Clone, Copy, Debug, PartialEq, Eq)]
 pub enum End {
-    /// A number has the fault 1, 2 or 3.
-    Refused(Refused),
-    /// The file ends where it may: so many numbers, so many bytes.
+    /// The number at this place has the fault 1, 2 or 3.
+    Fault { refusal: Refusal, place: usize },
+    /// The file ends, whether a number is needed there or not: so many numbers, so many bytes.
     OfFile { place: usize, byte: u64 },
     /// The file goes on behind the buffer; the first number that is not whole in the buffer, and
     /// the byte where it starts.
@@ -37,11 +39,25 @@ pub enum End {
 #[derive(Debug, PartialEq, Eq)]
 pub struct Page {
     steps: Vec<Step>,
+    /// Why the period's reading refuses the file, nothing if the file was read.
+    pub refused: Option<Refused>,
     pub end: End,
 }
 
-/// Walks the file as far as the buffer holds it. No field behind the header is tested.
+/// The page of the file: what the walk comes to, and what reading the whole file says. What the
+/// accounts refuse is not looked at.
 pub fn inspect(file: &[u8]) -> Page {
+    let (steps, end) = walk(file);
+    let refused = read_period(file).err();
+    Page {
+        steps,
+        refused,
+        end,
+    }
+}
+
+/// Walks the file as far as the buffer holds it. No field behind the header is tested.
+fn walk(file: &[u8]) -> (Vec<Step>, End) {
     let held = &file[..file.len().min(BUFFER_BYTES)];
     let is_cut = held.len() < file.len();
     let mut numbers = Vec::new();
@@ -63,19 +79,14 @@ pub fn inspect(file: &[u8]) -> Page {
                 byte = next;
             }
             Reading::Refused(Refusal::FileEnds) if is_cut => {
-                let end = End::Cut { place, byte };
-                return Page { steps, end };
+                return (steps, End::Cut { place, byte });
             }
-            Reading::Refused(Refusal::FileEnds)
-                if byte == held.len() as u64 && !field.is_needed() =>
-            {
-                let end = End::OfFile { place, byte };
-                return Page { steps, end };
+            Reading::Refused(Refusal::FileEnds) if byte == held.len() as u64 => {
+                return (steps, End::OfFile { place, byte });
             }
             Reading::Refused(refusal) => {
                 steps.push(step(None));
-                let end = End::Refused(Reason::from(refusal).at(place));
-                return Page { steps, end };
+                return (steps, End::Fault { refusal, place });
             }
         }
     }
@@ -96,7 +107,7 @@ impl fmt::Display for Step {
 impl fmt::Display for End {
     fn fmt(&self, out: &mut fmt::Formatter) -> fmt::Result {
         match self {
-            End::Refused(refused) => write!(out, "{refused}"),
+            End::Fault { refusal, place } => write!(out, "F {} {place}", refusal.number()),
             End::OfFile { place, byte } => write!(out, "E {place} {byte}"),
             End::Cut { place, byte } => write!(out, "C {place} {byte}"),
         }
@@ -108,7 +119,25 @@ impl fmt::Display for Page {
         for step in &self.steps {
             writeln!(out, "{step}")?;
         }
+        if let Some(refused) = &self.refused {
+            writeln!(out, "{refused}")?;
+        }
         writeln!(out, "{}", self.end)
+    }
+}
+
+/// What the tests of the suites look at.
+#[cfg(test)]
+pub mod pages_checked {
+    use super::inspect;
+
+    /// The lines of the file's page behind those of its numbers, with commas between them.
+    pub fn closing(file: &[u8]) -> String {
+        let page = inspect(file);
+        match page.refused {
+            Some(refused) => format!("{refused}, {}", page.end),
+            None => page.end.to_string(),
+        }
     }
 }
 
@@ -116,8 +145,8 @@ impl fmt::Display for Page {
 mod tests {
     use super::*;
     use crate::numbers::number::{write_number, LIMIT, MORE_FOLLOW, MOST_GROUPS};
-    use crate::periods::paper::{whole_period, WHOLE_PERIOD};
-    use crate::periods::reading::read_period;
+    use crate::periods::accounts::{account, Tables};
+    use crate::periods::paper::{proved_files, whole_period, WHOLE_PERIOD};
     use crate::periods::writing::{with_values, write_numbers};
 
     /// A header that is not allowed.
@@ -178,72 +207,98 @@ mod tests {
     }
 
     #[test]
-    fn header_that_is_not_whole_is_fault_1() {
-        assert_eq!(page_of(&[]), "0 0 - edition\nR 1 0\n");
-        assert_eq!(page_of(&[0x80]), "0 0 - edition\nR 1 0\n");
-        assert_eq!(page_of(&[0x01]), "0 0 1 edition\n1 1 - plants\nR 1 1\n");
+    fn header_that_is_not_whole_ends_the_page() {
+        assert_eq!(page_of(&[]), "R 1 0\nE 0 0\n");
+        assert_eq!(page_of(&[0x80]), "0 0 - edition\nR 1 0\nF 1 0\n");
+        assert_eq!(page_of(&[0x01]), "0 0 1 edition\nR 1 1\nE 1 1\n");
+        assert_eq!(page_of(&[0x02]), "0 0 2 edition\nR 4 0\nE 1 1\n");
         assert_eq!(
             page_of(&[0x02, 0x00, 0xAC, 0x02]),
-            "0 0 2 edition\n1 1 0 plants\n2 2 300 segments\n3 4 - lines\nR 1 3\n"
+            "0 0 2 edition\n1 1 0 plants\n2 2 300 segments\nR 4 0\nE 3 4\n"
+        );
+        assert_eq!(
+            page_of(&[0x01, 0x02, 0xAC]),
+            "0 0 1 edition\n1 1 2 plants\n2 2 - segments\nR 1 2\nF 1 2\n"
         );
     }
 
     #[test]
     fn header_that_is_not_allowed_tells_nothing() {
-        assert_eq!(last_lines(&NOT_ALLOWED, 2), ["3 3 0 lines", "E 4 4"]);
+        assert_eq!(
+            last_lines(&NOT_ALLOWED, 3),
+            ["3 3 0 lines", "R 4 0", "E 4 4"]
+        );
         let numbers_behind = [&NOT_ALLOWED[..], &[0x07, 0xAC, 0x02]].concat();
         assert_eq!(
-            last_lines(&numbers_behind, 3),
+            last_lines(&numbers_behind, 4),
             [
                 "4 4 7 not told by the header",
                 "5 5 300 not told by the header",
+                "R 4 0",
                 "E 6 7",
             ]
         );
         let ends_inside = [&NOT_ALLOWED[..], &[0x07, 0xAC]].concat();
         assert_eq!(
-            last_lines(&ends_inside, 2),
-            ["5 5 - not told by the header", "R 1 5"]
+            last_lines(&ends_inside, 3),
+            ["5 5 - not told by the header", "R 4 0", "F 1 5"]
         );
     }
 
     #[test]
-    fn file_that_ends_early_is_fault_1_at_every_number() {
+    fn file_may_end_early_before_every_number_and_inside_it() {
         for place in 0..WHOLE_PERIOD.len() {
             let before = write_numbers(&WHOLE_PERIOD[..place]);
-            let expected = format!("R 1 {place}");
-            assert_eq!(last_lines(&before, 1), [&expected[..]]);
-            let cut_inside = [&before[..], &[0x80]].concat();
-            assert_eq!(last_lines(&cut_inside, 2), last_lines(&before, 2));
+            let byte = before.len();
+            let page = page_of(&before);
+            assert_eq!(page.lines().count(), place + 2, "no line for the number");
+            assert!(page.ends_with(&format!("R 1 {place}\nE {place} {byte}\n")));
+
+            let page = page_of(&[&before[..], &[0x80]].concat());
+            assert_eq!(page.lines().count(), place + 3);
+            assert!(page.contains(&format!("{place} {byte} - ")));
+            assert!(page.ends_with(&format!("\nR 1 {place}\nF 1 {place}\n")));
         }
     }
 
     #[test]
     fn faults_of_numbers_are_told_with_byte_and_field() {
         let before = write_numbers(&WHOLE_PERIOD[..6]);
-        let last = |form: &[u8]| last_lines(&[&before[..], form, &[0x00; 9]].concat(), 2);
+        let last = |form: &[u8]| last_lines(&[&before[..], form, &[0x00; 9]].concat(), 3);
         let line = "6 7 - plant 1 origin fraction";
-        assert_eq!(last(&[0x80, 0x00]), [line, "R 2 6"]);
-        assert_eq!(last(&[MORE_FOLLOW; MOST_GROUPS]), [line, "R 3 6"]);
-        assert_eq!(last(&write_number(LIMIT + 1)), [line, "R 3 6"]);
-        assert_eq!(page_of(&[0x80, 0x00]), "0 0 - edition\nR 2 0\n");
+        assert_eq!(last(&[0x80, 0x00]), [line, "R 2 6", "F 2 6"]);
+        assert_eq!(last(&[MORE_FOLLOW; MOST_GROUPS]), [line, "R 3 6", "F 3 6"]);
+        assert_eq!(last(&write_number(LIMIT + 1)), [line, "R 3 6", "F 3 6"]);
+        assert_eq!(page_of(&[0x80, 0x00]), "0 0 - edition\nR 2 0\nF 2 0\n");
+    }
+
+    #[test]
+    fn walk_goes_on_where_reading_refuses() {
+        let store_leads_on = write_numbers(&with_values(&WHOLE_PERIOD[..25], &[(15, 1)]));
+        let last = |form: &[u8], count| last_lines(&[&store_leads_on, form].concat(), count);
+        let line = "25 35 - line 2 factor";
+        assert_eq!(last(&[], 2), ["R 7 15", "E 25 35"]);
+        assert_eq!(last(&[0x80], 3), [line, "R 7 15", "F 1 25"]);
+        assert_eq!(last(&[0x80, 0x00], 3), [line, "R 7 15", "F 2 25"]);
+        assert_eq!(last(&[0x80; 5], 3), [line, "R 7 15", "F 3 25"]);
     }
 
     #[test]
     fn numbers_after_the_last_are_read_too() {
         let last = |after: &[u8], count| last_lines(&[&whole_period(), after].concat(), count);
         assert_eq!(
-            last(&[0x00, 0xAC, 0x02], 3),
+            last(&[0x00, 0xAC, 0x02], 4),
             [
                 "26 37 0 after the last number",
                 "27 38 300 after the last number",
+                "R 9 26",
                 "E 28 40",
             ]
         );
         let line = "26 37 - after the last number";
-        assert_eq!(last(&[0x80], 2), [line, "R 1 26"]);
-        assert_eq!(last(&[0x80, 0x00], 2), [line, "R 2 26"]);
-        assert_eq!(last(&[0xFF; 5], 2), [line, "R 3 26"]);
+        assert_eq!(last(&[0x80], 3), [line, "R 9 26", "F 1 26"]);
+        assert_eq!(last(&[0x80, 0x00], 3), [line, "R 9 26", "F 2 26"]);
+        assert_eq!(last(&[0xFF; 5], 3), [line, "R 9 26", "F 3 26"]);
     }
 
     #[test]
@@ -251,27 +306,31 @@ mod tests {
         let changed = with_values(&WHOLE_PERIOD, &[(13, 4_000_000_000), (25, 1_000_000_001)]);
         let page = page_of(&write_numbers(&changed));
         assert!(page.contains("\n13 20 4000000000 segment 2 kind\n14 25 14899 "));
-        assert!(page.ends_with("\n25 39 1000000001 line 2 factor\nE 26 44\n"));
+        assert!(page.ends_with("\n25 39 1000000001 line 2 factor\nR 7 13\nE 26 44\n"));
     }
 
     #[test]
-    fn file_that_ends_early_is_refused_as_its_reading_is() {
-        for length in 0..whole_period().len() {
-            let file = &whole_period()[..length];
-            let refused = read_period(file).expect_err("the file ends early");
-            assert_eq!(inspect(file).end, End::Refused(refused));
+    fn refusal_is_that_of_reading_and_never_that_of_the_accounts() {
+        for file in proved_files() {
+            let refused = account(&file, Tables::LARGE_ENOUGH).err();
+            let by_reading = refused.filter(|refused| refused.reason as u8 <= 9);
+            assert_eq!(inspect(&file).refused, by_reading);
         }
     }
 
     #[test]
     fn file_as_long_as_the_buffer_is_not_cut() {
         assert_eq!(
-            last_lines(&ones_then(65_535, &[]), 2),
-            ["65534 65534 1 not told by the header", "E 65535 65535"]
+            last_lines(&ones_then(65_535, &[]), 3),
+            [
+                "65534 65534 1 not told by the header",
+                "R 4 0",
+                "E 65535 65535",
+            ]
         );
         assert_eq!(
-            last_lines(&ones_then(65_531, &[0x80; 4]), 2),
-            ["65531 65531 - not told by the header", "R 1 65531"]
+            last_lines(&ones_then(65_531, &[0x80; 4]), 3),
+            ["65531 65531 - not told by the header", "R 4 0", "F 1 65531",]
         );
     }
 
@@ -280,8 +339,12 @@ mod tests {
         let limit = write_number(LIMIT);
         for length in [65_536, 65_537, 70_000] {
             assert_eq!(
-                last_lines(&ones_then(length, &[]), 2),
-                ["65534 65534 1 not told by the header", "C 65535 65535"]
+                last_lines(&ones_then(length, &[]), 3),
+                [
+                    "65534 65534 1 not told by the header",
+                    "R 4 0",
+                    "C 65535 65535",
+                ]
             );
         }
         for start in 65_531..=65_535 {
@@ -289,9 +352,10 @@ mod tests {
             assert_eq!(last_lines(&ones_then(start, &limit), 1), [&expected[..]]);
         }
         assert_eq!(
-            last_lines(&ones_then(65_530, &[&limit[..], &[0x01]].concat()), 2),
+            last_lines(&ones_then(65_530, &[&limit[..], &[0x01]].concat()), 3),
             [
                 "65530 65530 4000000000 not told by the header",
+                "R 4 0",
                 "C 65531 65535",
             ]
         );
@@ -300,15 +364,15 @@ mod tests {
     #[test]
     fn faults_2_and_3_are_told_where_the_buffer_holds_them() {
         let faults = [
-            (&[0x80, 0x00][..], "R 2"),
-            (&[0x80, 0x80, 0x80, 0x80, 0x00], "R 2"),
-            (&[0x80; 5], "R 3"),
-            (&[0x81, 0xD0, 0xAC, 0xF3, 0x0E], "R 3"),
+            (&[0x80, 0x00][..], "F 2"),
+            (&[0x80, 0x80, 0x80, 0x80, 0x00], "F 2"),
+            (&[0x80; 5], "F 3"),
+            (&[0x81, 0xD0, 0xAC, 0xF3, 0x0E], "F 3"),
         ];
-        for (form, refusal) in faults {
+        for (form, fault) in faults {
             let start = 65_535 - form.len();
             let followed = [form, &[0x01]].concat();
-            let expected = format!("{refusal} {start}");
+            let expected = format!("{fault} {start}");
             assert_eq!(last_lines(&ones_then(start, &followed), 1), [&expected[..]]);
             assert_eq!(last_lines(&ones_then(start, form), 1), [&expected[..]]);
 

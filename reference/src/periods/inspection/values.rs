@@ -1,4 +1,5 @@
-//! Numbers behind the header that are out of their fields' ranges: they are printed, not tested.
+//! Numbers behind the header that are out of their fields' ranges: the walk prints them and goes
+//! on, reading refuses the file.
 
 use crate::numbers::number::{GROUP_BITS, LIMIT, MOST_GROUPS};
 use crate::periods::fields::fields_of;
@@ -10,7 +11,7 @@ use crate::seeded::Seeded;
 use std::collections::BTreeSet;
 
 /// How many files of seeded values there are.
-const SEEDED_FILES: usize = 20;
+const SEEDED_FILES: usize = 8;
 /// The seed of these values.
 const SEED_OF_VALUES: u64 = 0x5EED_0010;
 
@@ -84,7 +85,6 @@ fn seeded_values() -> Vec<Vec<u8>> {
 mod tests {
     use super::*;
     use crate::periods::inspection::page::{inspect, End};
-    use crate::periods::reading::read_period;
 
     fn outside_at(place: usize) -> Vec<u64> {
         values_outside(place).into_iter().collect()
@@ -121,12 +121,13 @@ mod tests {
     #[test]
     fn files_are_mostly_refused_and_always_walked_to_their_end() {
         let files = values_behind_header();
+        let mut refused = 0;
         for file in &files {
             let length = file.len() as u64;
-            let end = inspect(file).end;
-            assert!(matches!(end, End::OfFile { byte, .. } if byte == length));
+            let page = inspect(file);
+            assert!(matches!(page.end, End::OfFile { byte, .. } if byte == length));
+            refused += usize::from(page.refused.is_some());
         }
-        let refused = files.iter().filter(|file| read_period(file).is_err());
-        assert!(refused.count() >= files.len() * 3 / 4);
+        assert!(refused >= files.len() * 3 / 4);
     }
 }

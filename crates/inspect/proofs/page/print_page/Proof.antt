@@ -1,33 +1,95 @@
--- `inspect::page::print_page` is safe and ends: what is walked of a longer file is as long as the limit says. Assumes nothing.
-use mathlib.Core.Path.{sym}
+-- `inspect::page::print_page` is safe and ends: each number that a step finds leaves fewer bytes, and a place is never past its byte.
+-- Assumes nothing.
+use Prim.Native.Nat.{_≤_, _-_}
 use native.Mathlib.Omega.{arith}
-use lib.Seq.{length-take-le}
+use lib.ListN.{length}
 use denote.Ref.{now}
 use borrow.Author.Needs.{needs}
+use Rattle.number.proofs.Laws.{Bounds}
+use Rattle.inspector.proofs.Steps.{moves-on}
 use Rattle.inspect.proofs.page.print_page.Statement.{statement}
 use Rattle.inspect.proofs.page.print_page.Tie as tie
 
-print-walk-requires : tie.Need-print-walk-requires
-print-walk-requires c κs = search needs
+abbrev Inv-loop : tie.InvT-loop
+Inv-loop file cut header place₀ at₀ place at = (place ≤ at) × (at ≤ length file)
 
-returns : tie.Need-returns
+abbrev μ-loop : tie.MeasureT-loop
+μ-loop file cut header place₀ at₀ place at = length file - at
+
+-- ---- what is known when a step has found a number
+abbrev Found : Type 0
+Found = tie.Else1 Inv-loop μ-loop
+
+moved :
+    (c : Found) →
+    Bounds (now (c .before .before .before .before .before .before .before .before .before .before .args .file))
+    (c .before .before .before .before .before .before .before .loop .at)
+    (c .before .before .before .found .given .0 .0)
+    (c .before .before .before .before .before .before .step-at .result .at)
+moved c =
+    let found = c .before .before .before .found .given in
+    let step = c .before .before .before .before .before .before .step-at in
+    moves-on
+    (now (c .before .before .before .before .before .before .before .before .before .before .args .file))
+    (c .before .before .before .before .before .before .before .loop .at)
+    (found .0 .0)
+    (found .0 .1 .0)
+    (step .result)
+    (step .ensures)
+    (found .1)
+
+-- ---- the needs
+of-requires : tie.Need-of-requires Inv-loop μ-loop
+of-requires c κs = search needs
+
+loop-holds : tie.Need-loop-holds Inv-loop μ-loop
+loop-holds c = omega arith
+
+step-at-requires : tie.Need-step-at-requires Inv-loop μ-loop
+step-at-requires c κs = search needs
+
+field-at-requires : tie.Need-field-at-requires Inv-loop μ-loop
+field-at-requires c κs = search needs
+
+enum-known-found : tie.Need-enum-known-found Inv-loop μ-loop
+enum-known-found c = search needs
+
+print-ending-requires : tie.Need-print-ending-requires Inv-loop μ-loop
+print-ending-requires c κs = search needs
+
+returns : tie.Need-returns Inv-loop μ-loop
 returns c = search needs
 
-slice-aggregate-print-walk : tie.Need-slice-aggregate-print-walk
-slice-aggregate-print-walk c = sym (length-take-le 65_535 (now (c .before .before .before .args .bytes)) (omega arith))
+print-line-requires : tie.Need-print-line-requires Inv-loop μ-loop
+print-line-requires c κs = search needs
 
-print-walk-requires-2 : tie.Need-print-walk-requires-2
-print-walk-requires-2 c κs = search needs
-
-returns-2 : tie.Need-returns-2
+returns-2 : tie.Need-returns-2 Inv-loop μ-loop
 returns-2 c = search needs
+
+add-place : tie.Need-add-place Inv-loop μ-loop
+add-place c = omega (arith, moved c .later, moved c .inside)
+
+loop-less : tie.Need-loop-less Inv-loop μ-loop
+loop-less c = omega (arith, moved c .later, moved c .inside)
+
+loop-again : tie.Need-loop-again Inv-loop μ-loop
+loop-again c = omega (arith, moved c .later, moved c .inside)
 
 pub print-page-spec : {M : Type 1} → statement M
 print-page-spec =
     tie.close
     (tie.spec
-    print-walk-requires
+    Inv-loop
+    μ-loop
+    of-requires
+    loop-holds
+    step-at-requires
+    field-at-requires
+    enum-known-found
+    print-ending-requires
     returns
-    slice-aggregate-print-walk
-    print-walk-requires-2
-    returns-2)
+    print-line-requires
+    returns-2
+    add-place
+    loop-less
+    loop-again)

@@ -1,4 +1,4 @@
--- `Inspector::at` meets its contract: the place is read from the reader's second field, and the reader is at exit as it was passed.
+-- `Inspector::at` meets its contract: the place is the reader's second field, and reading it leaves the reader alone.
 -- That the place is a `usize` is part of what whoever holds a reader knows.
 -- Assumes nothing.
 use Prim.Native.Nat.{_<_, _^_}

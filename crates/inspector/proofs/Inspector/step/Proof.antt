@@ -1,6 +1,6 @@
 -- `Inspector::step` meets its contract: the loan of the reader is opened, number reading is asked where the reader stands, the place that `after` names is stored in the
 -- reader, and the loan is closed at the reader so moved. What `read_at` and `after` promise is all that is known of them, and it is what `step` promises.
--- A reader can be copied, so what it owns is had twice: of one copy the file goes to `read_at`, with the token of 'a, which comes back; the other is closed over.
+-- A reader can be copied. The file of one copy goes to `read_at`, with the token of 'a, which comes back; over the other copy the loan is closed.
 -- Assumes nothing.
 use Prim.Native.Nat.{ℕ, _<_, _^_}
 use mathlib.Core.Path.{_≡_, refl, ap, _∙_}

@@ -1,0 +1,31 @@
+-- What the theorems say of a field: the number that stands in it, and the refusal that is due to it.
+use Prim.Native.Nat.{ℕ, zero, suc, _-_}
+use lib.ListN.{getD}
+use Rattle.records.specs.Plants.{noPlant}
+use Rattle.records.specs.Segments.{noSegment}
+use Rattle.records.specs.Lines.{noLine}
+use Rattle.records.specs.Refusals.{wrongEdition, wrongCount, wrongPlant, wrongSegment, wrongLine, bytesAfter}
+use Rattle.records.specs.Periods.{Period}
+use Rattle.inspector.specs.declared.field.Field.{Field}
+use Rattle.inspector.specs.declared.field.Field.the-variants as Field
+use Rattle.inspector.specs.Numbers.{headerNumbersOf, plantNumbersOf, segmentNumbersOf, lineNumbersOf}
+
+-- What stands in a field of a period.
+abbrev pub standsIn : Field → Period → ℕ
+standsIn (Field.Header field) period = getD (headerNumbersOf period) field 0
+standsIn (Field.Plant number field) period = getD (plantNumbersOf (getD (period .plants) (number - 1) noPlant)) field 0
+standsIn (Field.Segment number field) period = getD (segmentNumbersOf (getD (period .segments) (number - 1) noSegment)) field 0
+standsIn (Field.Line number field) period = getD (lineNumbersOf (getD (period .lines) (number - 1) noLine)) field 0
+standsIn Field.After period = 0
+standsIn Field.Untold period = 0
+
+-- The refusal that is due to a field: that of its number where it is not allowed; behind the last one, that of the bytes that follow; and
+-- none where the header tells nothing.
+abbrev pub refusalDue : Field → ℕ
+refusalDue (Field.Header zero) = wrongEdition
+refusalDue (Field.Header (suc field)) = wrongCount
+refusalDue (Field.Plant number field) = wrongPlant
+refusalDue (Field.Segment number field) = wrongSegment
+refusalDue (Field.Line number field) = wrongLine
+refusalDue Field.After = bytesAfter
+refusalDue Field.Untold = 0

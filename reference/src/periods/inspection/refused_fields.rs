@@ -1,0 +1,35 @@
+//! The whole period with a number that its field may not be: reading refuses it there, and the
+//! walk goes on.
+
+use crate::periods::paper::WHOLE_PERIOD;
+use crate::periods::writing::with_values;
+
+/// Places of the whole period where 0 is not allowed: the count of plants, a first segment, a
+/// kind, and an owner number.
+const PLACES_WITHOUT_ZERO: [usize; 4] = [1, 5, 10, 17];
+
+/// The numbers of the whole period with 0 at each of these places.
+pub fn with_field_not_allowed() -> [Vec<u64>; 4] {
+    PLACES_WITHOUT_ZERO.map(|place| with_values(&WHOLE_PERIOD, &[(place, 0)]))
+}
+
+#[cfg(test)]
+mod tests {
+    use super::*;
+    use crate::periods::inspection::page::pages_checked::closing;
+    use crate::periods::writing::write_numbers;
+
+    #[test]
+    fn each_sort_of_field_is_refused() {
+        let closings = with_field_not_allowed().map(|numbers| closing(&write_numbers(&numbers)));
+        assert_eq!(
+            closings,
+            [
+                "R 5 1, E 26 37",
+                "R 6 5, E 26 37",
+                "R 7 10, E 26 37",
+                "R 8 17, E 26 37",
+            ]
+        );
+    }
+}
