@@ -12,3 +12,5 @@ pub mod FieldsNamed
 pub mod RefusedFields
 -- No two outcomes meet a promise.
 pub mod Outcome
+-- 01's whole period.
+pub mod Examples

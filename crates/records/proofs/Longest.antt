@@ -21,6 +21,7 @@ use Rattle.records.specs.Lines.{mostLines, largestFactor}
 use Rattle.records.specs.Run.{run}
 use Rattle.records.specs.Fields.{Reader, return, needs, _>>=_, each, Read, read, refused, reads}
 use Rattle.records.specs.Periods.{Header, edition, header, plant, segment, line, records, period, ended, periodFile}
+use Rattle.records.specs.Headers.{telling, headerOf}
 use Rattle.records.specs.Longest.{headerBytes, plantBytes, segmentBytes, lineBytes, mostBytes}
 use Rattle.records.proofs.Ranges.{at-most, next-at-most, owner-at-most}
 use Rattle.records.proofs.Classes.{code-at-most}
@@ -158,11 +159,13 @@ module _ (file : List ℕ) (n : ℕ) (longer : mostBytes < n) where
   abbrev Alike : {A : Type 0} → Reader A → (place at : ℕ) → Type 0
   Alike reader place at = Same (reads reader place (run (drop at front))) (reads reader place (run (drop at file)))
 
-  alike : {A : Type 0} {reader : Reader A} {at : ℕ} (place : ℕ) → Fits (UpTo mostBytes) reader at → Alike reader place at
+  alike :
+      {A : Type 0} {P : A → ℕ → Type 0} {reader : Reader A} {at : ℕ} → ((what : A) (next : ℕ) → P what next → next ≤ mostBytes) →
+      (place : ℕ) → Fits P reader at → Alike reader place at
   unfolding reads
-  alike place (done h) = both-read h
-  alike {A} place (room {refusal} {allowed} {then} {at} enough rest) =
-      by-answer (readAt file at) refl (λ v next passed takes. alike (suc place) (rest v next passed takes))
+  alike inside place (done {what} {at} h) = both-read (inside what at h)
+  alike {A} inside place (room {refusal} {allowed} {then} {at} enough rest) =
+      by-answer (readAt file at) refl (λ v next passed takes. alike inside (suc place) (rest v next passed takes))
     where
       by-test :
           (v next : ℕ) → readAt file at ≡ oneNumber v next → (t : Bool) → allowed v ≡ t → (allowed v ≡ true → Alike (then v) (suc place) next) →
@@ -191,7 +194,16 @@ module _ (file : List ℕ) (n : ℕ) (longer : mostBytes < n) where
 -- bytes past the longest file cannot change what reading comes to
 pub cut : (file : List ℕ) (n : ℕ) → mostBytes < n → periodFile (take n file) ≡ periodFile file
 unfolding periodFile
-cut file n longer = ended-alike file n longer (alike file n longer 0 period-fits)
+cut file n longer = ended-alike file n longer (alike file n longer (λ what next h. h) 0 period-fits)
+
+-- nor what its header tells
+pub header-cut : (file : List ℕ) (n : ℕ) → mostBytes < n → headerOf (take n file) ≡ headerOf file
+unfolding headerOf
+header-cut file n longer = told-alike (alike file n longer (λ h next its. omega (arith, its .0)) 0 header-fits)
+  where
+    told-alike : {r s : Read Header} → Same file n longer r s → telling r ≡ telling s
+    told-alike both-refused = refl
+    told-alike (both-read h) = refl
 
 -- each field of the longest file takes the bytes of its largest value
 abbrev width : ℕ → ℕ
