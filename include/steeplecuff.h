@@ -2,14 +2,23 @@
  * Steeplecuff: the removal units of the capture plants of one certification period.
  *
  * One call takes a period file and fills two tables: a row for each plant and a row for each segment. Or it refuses the
- * file, and says why and where. The scope paper has the rules; this header says how a C or C++ program asks for them.
- * Link with the archive for x86-64 that `rt staticlib historian` builds.
+ * file, and says why and where. docs/GUIDE.md explains the file, the rows and the refusals; this page says how a C or
+ * C++ program asks for them, in this order:
+ *
+ *   the version . the row of a plant . the row of a segment . limits . counts . answers . the call . an example
+ *
+ * Link with the archive target/staticlib/libhistorian.a, for x86-64, which `rt staticlib historian` proves and builds. Of
+ * the C library it needs memcpy and memset. examples/historian.c is a whole program; examples/README.md builds it by
+ * hand, with make, with CMake and with pkg-config.
  */
 #ifndef STEEPLECUFF_H
 #define STEEPLECUFF_H
 
 #include <stddef.h>
 #include <stdint.h>
+
+/* The version of this header and of the archive that it goes with. The first part changes where a caller has to. */
+#define STEEPLECUFF_VERSION "1.0.0"
 
 #ifdef __cplusplus
 extern "C" {
@@ -38,14 +47,26 @@ enum steeplecuff_segment_number {
     STEEPLECUFF_SEGMENT_NUMBERS   /* how many numbers a segment's row has: 5 */
 };
 
-/* How much there can be. Tables of these sizes suffice for every file. */
+/*
+ * How much there can be. Tables of these sizes suffice for every file. No file that can be read is longer than
+ * STEEPLECUFF_MOST_FILE_BYTES: a caller that reads one byte more into a buffer and passes that gets the answer of the
+ * whole file, however long it is.
+ */
 enum steeplecuff_limit {
     STEEPLECUFF_MOST_PLANTS = 16,
     STEEPLECUFF_MOST_SEGMENTS = 32,
+    STEEPLECUFF_MOST_LINES = 512,
     STEEPLECUFF_NUMBER_BYTES = 8, /* bytes of one number in a table */
     STEEPLECUFF_MOST_PLANT_BYTES = STEEPLECUFF_MOST_PLANTS * STEEPLECUFF_PLANT_NUMBERS * STEEPLECUFF_NUMBER_BYTES,
-    STEEPLECUFF_MOST_SEGMENT_BYTES = STEEPLECUFF_MOST_SEGMENTS * STEEPLECUFF_SEGMENT_NUMBERS * STEEPLECUFF_NUMBER_BYTES
+    STEEPLECUFF_MOST_SEGMENT_BYTES = STEEPLECUFF_MOST_SEGMENTS * STEEPLECUFF_SEGMENT_NUMBERS * STEEPLECUFF_NUMBER_BYTES,
+    /* the header and the records, each with the most bytes of every field: 7,029 */
+    STEEPLECUFF_MOST_FILE_BYTES = (1 + 1 + 1 + 2) + STEEPLECUFF_MOST_PLANTS * (5 + 1 + 3) +
+                                  STEEPLECUFF_MOST_SEGMENTS * (1 + 5 + 1) + STEEPLECUFF_MOST_LINES * (1 + 1 + 1 + 5 + 5)
 };
+
+/* Where an accepted file has its counts, and so how many rows the tables have: the bytes file[1] and file[2]. Its first
+   three numbers, edition, P and S, take one byte each. */
+enum steeplecuff_count_byte { STEEPLECUFF_PLANTS_BYTE = 1, STEEPLECUFF_SEGMENTS_BYTE = 2 };
 
 /*
  * What the call answers, and what its place then counts. "number" is the number of the file at fault, counted from 0;
@@ -85,7 +106,8 @@ enum steeplecuff_answer {
  * overlap neither each other nor the file.
  *
  * The call keeps nothing from one call to the next and has no global state: threads may call it at the same time, each
- * with tables and a place of its own, on the same file if they like.
+ * with tables and a place of its own, on the same file if they like. It allocates nothing, calls nothing back and ends for
+ * every input. It uses some 27,000 bytes of stack, whatever the file (docs/PERFORMANCE.md).
  */
 uint32_t steeplecuff_quantify(const uint8_t *file, size_t file_len, uint8_t *plants, size_t plants_len,
                               uint8_t *segments, size_t segments_len, uint64_t *place);
@@ -115,8 +137,7 @@ Example:
             printf("refused: %" PRIu32 " at %" PRIu64 "\n", refusal, place);
             return;
         }
-        size_t count = file[1]; // P, the second number: in an accepted file it is the second byte, and S the third
-        for (size_t plant = 0; plant < count; plant++)
+        for (size_t plant = 0; plant < file[STEEPLECUFF_PLANTS_BYTE]; plant++)
             printf("plant %zu: %" PRIu64 " units\n", plant + 1,
                    number_of(plants, plant * STEEPLECUFF_PLANT_NUMBERS + STEEPLECUFF_PLANT_UNITS));
     }
