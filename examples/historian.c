@@ -1,7 +1,7 @@
 /*
  * historian FILE: a small plant historian. It reads a period file, has the library work it out, and prints a row for each
  * plant and for each segment, or says why the file is refused. Ends with 0, 1 where the file is refused, 2 where it could
- * not be read. README.md in this folder says how to build and run it.
+ * not be read or the rows could not be written. README.md in this folder says how to build and run it.
  */
 #include <inttypes.h>
 #include <stdbool.h>
@@ -10,7 +10,7 @@
 
 #include "steeplecuff.h"
 
-enum { REFUSED = 1, UNREAD = 2 };
+enum { REFUSED = 1, NOT_DONE = 2 };
 
 /* Room for one byte more than any period file has: that byte tells that a file is too long, and no byte after it can
    change the answer. */
@@ -78,16 +78,20 @@ int main(int argc, char **argv)
 
     if (argc != 2 || !read_file(&file, argv[1])) {
         fprintf(stderr, "historian: cannot read a period file: write historian FILE, with a file that you may read\n");
-        return UNREAD;
+        return NOT_DONE;
     }
     uint32_t answer =
         steeplecuff_quantify(file.bytes, file.len, plants, sizeof plants, segments, sizeof segments, &place);
-    if (answer != STEEPLECUFF_ACCEPTED) {
+    if (answer == STEEPLECUFF_ACCEPTED) {
+        print_rows('P', plants, file.bytes[STEEPLECUFF_PLANTS_BYTE], STEEPLECUFF_PLANT_NUMBERS);
+        print_rows('S', segments, file.bytes[STEEPLECUFF_SEGMENTS_BYTE], STEEPLECUFF_SEGMENT_NUMBERS);
+    } else {
         printf("R %" PRIu32 " %" PRIu64 "\n", answer, place);
         fprintf(stderr, "historian: refused, %" PRIu32 " at %" PRIu64 ": %s\n", answer, place, reasons[answer]);
-        return REFUSED;
     }
-    print_rows('P', plants, file.bytes[STEEPLECUFF_PLANTS_BYTE], STEEPLECUFF_PLANT_NUMBERS);
-    print_rows('S', segments, file.bytes[STEEPLECUFF_SEGMENTS_BYTE], STEEPLECUFF_SEGMENT_NUMBERS);
-    return EXIT_SUCCESS;
+    if (fflush(stdout) != 0 || ferror(stdout)) {
+        fprintf(stderr, "historian: cannot write to standard output: see that there is room, and run this again\n");
+        return NOT_DONE;
+    }
+    return answer == STEEPLECUFF_ACCEPTED ? EXIT_SUCCESS : REFUSED;
 }

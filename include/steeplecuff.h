@@ -76,7 +76,7 @@ enum steeplecuff_answer {
     STEEPLECUFF_ACCEPTED = 0,                         /* both tables are written; the place is 0 */
     STEEPLECUFF_REFUSED_FILE_ENDS = 1,                /* the file ends inside a number or where one is needed: number */
     STEEPLECUFF_REFUSED_NOT_SHORTEST = 2,             /* a number is not in its shortest form: number */
-    STEEPLECUFF_REFUSED_NUMBER_OVER_LIMIT = 3,        /* a number has a sixth group or is over 4,000,000,000: number */
+    STEEPLECUFF_REFUSED_NUMBER_OVER_LIMIT = 3,        /* a fifth group says more follow, or over 4,000,000,000: number */
     STEEPLECUFF_REFUSED_EDITION = 4,                  /* the edition is not 1: number */
     STEEPLECUFF_REFUSED_COUNT = 5,                    /* P, S or L is outside its range: number */
     STEEPLECUFF_REFUSED_PLANT_FIELD = 6,              /* a plant's field is outside its range: number */
@@ -127,7 +127,7 @@ Example:
         return number;
     }
 
-    void print_units(const uint8_t *file, size_t file_len)
+    static void print_units(const uint8_t *file, size_t file_len)
     {
         uint8_t plants[STEEPLECUFF_MOST_PLANT_BYTES], segments[STEEPLECUFF_MOST_SEGMENT_BYTES];
         uint64_t place;
