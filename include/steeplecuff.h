@@ -127,7 +127,7 @@ Example:
         return number;
     }
 
-    static void print_units(const uint8_t *file, size_t file_len)
+    void print_units(const uint8_t *file, size_t file_len)
     {
         uint8_t plants[STEEPLECUFF_MOST_PLANT_BYTES], segments[STEEPLECUFF_MOST_SEGMENT_BYTES];
         uint64_t place;
