@@ -4,7 +4,6 @@ mod Lent
 pub mod Steps
 -- The numbers that reading takes: they are the period's, and a walk over the file gives them.
 pub mod NumbersTaken
-mod OneKind
 mod Taking
 pub mod Walking
 -- The field that is named at a place.

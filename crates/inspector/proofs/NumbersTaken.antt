@@ -1,9 +1,9 @@
 -- The numbers that the reading of a period takes are the period's: its header's, and those of its records in the order of the file.
 use Prim.Native.Nat.{ℕ, zero, suc}
 use mathlib.Core.Path.{_≡_, refl, sym, ap, _∙_}
-use mathlib.Core.Bool.{Bool, true, false, cond}
+use mathlib.Core.Bool.{true}
 use mathlib.Core.List.{List, [], _∷_, _++_, append-nil}
-use lib.ListN.{length}
+use lib.ListN.{length, drop}
 use borrow.Author.Tests.{eqb-true}
 use Rattle.records.specs.declared.header.Header.the-variants.{Tells}
 use Rattle.records.specs.Refusals.{bytesAfter}
@@ -12,8 +12,11 @@ use Rattle.records.specs.Fields.{Reader, return, needs, _>>=_, each, Read, read
 use Rattle.records.specs.Periods.{Period, Header, edition, header, plant, segment, line, records, period, ended, periodFile}
 use Rattle.records.specs.Headers.{telling, headerOf}
 use Rattle.records.specs.Answers.{refuses}
-use Rattle.records.proofs.Runs.{clash}
+use Rattle.records.proofs.Runs.{clash, number-at}
+use Rattle.records.proofs.Fields.{Comes, done as all-read, goes, goes-over}
+use Rattle.records.proofs.Readers.{Came, came, comes-to}
 use Rattle.records.proofs.Whole.{after-read, after-refused}
+use Rattle.records.proofs.Periods.{HeaderField, Stands, HeaderRead, header-along}
 use Rattle.accounts.specs.Accepted.{Accepted, held}
 use Rattle.accounts.proofs.Testing.{refused-not-accepted}
 use Rattle.accounts.proofs.Refused.{reading-refuses}
@@ -25,23 +28,13 @@ unfoldable Gives : {A : Type 0} → (List ℕ → A → Type 0) → Reader A →
 Gives P (return what) = P [] what
 Gives P (needs refusal allowed then) = (value : ℕ) → allowed value ≡ true → Gives (λ more. P (value ∷ more)) (then value)
 
--- so have the numbers that it takes from a run and what reading comes to
+-- so have the numbers that it takes from a file and what reading comes to
 took :
-    {A : Type 0} (P : List ℕ → A → Type 0) (reader : Reader A) → Gives P reader →
-    (place end : ℕ) (left rest : Run) (what : A) → reads reader place left ≡ read what end rest → P (taken reader left) what
-unfolding Gives reads taken
-took P (return found) given place end left rest what e = let is : found ≡ what = cc in rw (← is) given
-took P (needs refusal allowed then) given place end over rest what e = clash (cc)
-took P (needs refusal allowed then) given place end (fault k) rest what e = clash (cc)
-took P (needs refusal allowed then) given place end (number v left) rest what e =
-    by-test (allowed v) refl e (λ passed. took (λ more. P (v ∷ more)) (then v) (given v passed) (suc place) end left rest what)
-  where
-    by-test :
-        (t : Bool) → allowed v ≡ t → cond t (reads (then v) (suc place) left) (refused refusal place) ≡ read what end rest →
-        (allowed v ≡ true → reads (then v) (suc place) left ≡ read what end rest → P (v ∷ taken (then v) left) what) →
-        P (v ∷ cond t (taken (then v) left) []) what
-    by-test true passed e on = on passed e
-    by-test false passed e on = clash (cc)
+    {A : Type 0} {file : List ℕ} (P : List ℕ → A → Type 0) {reader : Reader A} {place at end : ℕ} {rest : Run} {what : A} → Gives P reader →
+    Comes file reader place at (read what end rest) → P (taken reader (run (drop at file))) what
+unfolding Gives taken
+took P given all-read = given
+took {file} P given (goes {at} {v} {n} e h later) = rw (number-at file at v n e, h) (took (λ more. P (v ∷ more)) (given v h) later)
 
 -- what follows from the property they have as well
 gives-on :
@@ -126,7 +119,7 @@ period-takes =
 pub numbers-taken :
     {what : Period} {place : ℕ} {rest : Run} (file : List ℕ) → reads period 0 (run file) ≡ read what place rest → consumed file ≡ numbersOf what
 unfolding consumed
-numbers-taken {what} {place} {rest} file e = took _ period period-takes 0 place (run file) rest what e
+numbers-taken file e = took _ period-takes (rw e at (goes-over file period 0 0))
 
 -- ---- an accepted file
 module _ {file plants segments : List ℕ} (given : Accepted file plants segments) where
@@ -153,14 +146,14 @@ module _ {file plants segments : List ℕ} (given : Accepted file plants segment
   -- and its header tells how many records that period has
   pub header-told : headerOf file ≡ Tells (length (held file .plants)) (length (held file .segments)) (length (held file .lines))
   unfolding headerOf period
-  header-told = by-header (reads header 0 (run file)) refl
+  header-told = by-header (reads header 0 (run file)) refl (comes-to (header-along file))
     where
       by-header :
-          (outcome : Read Header) → reads header 0 (run file) ≡ outcome →
+          (outcome : Read Header) → reads header 0 (run file) ≡ outcome → Came file (Stands HeaderField) HeaderRead outcome →
           telling outcome ≡ Tells (length (held file .plants)) (length (held file .segments)) (length (held file .lines))
-      by-header (read h at rest) e =
-          let on = sym (after-read header records 0 (run file) h at rest e) ∙ accepted-read .1 in
-          let are = took _ (records h) (records-take h) at (accepted-read .0) rest over (held file) on in
+      by-header (read h end rest) e (came {at} its) =
+          let on = sym (after-read header records 0 (run file) h end rest e) ∙ accepted-read .1 in
+          let are = took (Announced h) (records-take h) (rw on at (goes-over file (records h) end at)) in
           rw (are .plants, are .segments, are .lines)
-      by-header (refused refusal place) e =
+      by-header (refused refusal place) e its =
           clash (cc (after-refused header records 0 (run file) (refuses refusal place) e, accepted-read .1))

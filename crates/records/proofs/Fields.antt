@@ -49,6 +49,30 @@ comes file (stops {refusal} {allowed} {then} {place} {at} {k} e) = by-run (fault
     by-run ended = refl
     by-run faulty = refl
 
+-- and every reading goes so: a number is there or a fault, and the test of its field allows the number or not
+abbrev GoesOver : {A : Type 0} → List ℕ → Reader A → (place at : ℕ) → Type 0
+GoesOver file reader place at = Comes file reader place at (reads reader place (run (drop at file)))
+
+pub goes-over : {A : Type 0} (file : List ℕ) (reader : Reader A) (place at : ℕ) → GoesOver file reader place at
+unfolding reads
+goes-over file (return what) place at = done
+goes-over {A} file (needs refusal allowed then) place at = by-number (readAt file at) refl (λ v n. goes-over file (then v) (suc place) n)
+  where
+    so : {outcome : Read A} → Comes file (needs refusal allowed then) place at outcome → GoesOver file (needs refusal allowed then) place at
+    so way = rw (comes file way) way
+
+    by-test :
+        (v n : ℕ) (t : Bool) → readAt file at ≡ oneNumber v n → allowed v ≡ t → GoesOver file (then v) (suc place) n →
+        GoesOver file (needs refusal allowed then) place at
+    by-test v n true e h later = so (goes e h later)
+    by-test v n false e h later = so (fails e h)
+
+    by-number :
+        (a : Answer) → readAt file at ≡ a → ((v n : ℕ) → GoesOver file (then v) (suc place) n) →
+        GoesOver file (needs refusal allowed then) place at
+    by-number (oneFault k) e later = so (stops e)
+    by-number (oneNumber v n) e later = by-test v n (allowed v) e refl (later v n)
+
 -- ---- from what the code knows of a number that it read
 no-value : OneOf (1 ∷ 2 ∷ 3 ∷ []) 0 → ⊥
 no-value tag = miss (1 ∷ 2 ∷ 3 ∷ []) 0 tt tag

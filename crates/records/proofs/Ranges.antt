@@ -1,13 +1,14 @@
 -- What the tests of fields come to, each from the facts that decide it.
 use Prim.Native.Nat.{ℕ, suc, _≤_, _<_}
-use mathlib.Core.Path.{_≡_, refl, sym}
+use mathlib.Core.Path.{_≡_, refl, sym, _∙_}
 use mathlib.Core.Bool.{Bool, true, false, _&&_, _||_, or-false, and-false, true≢false}
 use mathlib.Core.Logic.{_⊎_, inl, inr, ⊎-elim}
+use native.Mathlib.Decide.{decLe}
 use native.Mathlib.Omega.{arith}
 use lib.Dec.{leb, eqb}
 use borrow.Author.Tests.{le-leb, lt-leb, eq-eqb, ne-eqb, leb-true, eqb-true}
 use Rattle.records.specs.Ranges.{within}
-use Rattle.records.specs.Segments.{nextAllowed, pipeline, intermediateStorage, store}
+use Rattle.records.specs.Segments.{kindAllowed, nextAllowed, pipeline, intermediateStorage, store}
 use Rattle.records.specs.Classes.{plantOwner, segmentOwner}
 use Rattle.records.specs.Lines.{ownerAllowed}
 
@@ -32,6 +33,13 @@ at-most low high v e = by-tests (leb low v) (leb v high) refl e
     by-tests true true q h = leb-true v high q
     by-tests true false q h = absurd (true≢false (sym h))
     by-tests false b q h = absurd (true≢false (sym h))
+
+pub at-least : (low high v : ℕ) → within low high v ≡ true → low ≤ v
+at-least low high v e = by-test (leb low v) refl e
+  where
+    by-test : (t : Bool) → leb low v ≡ t → t && leb v high ≡ true → low ≤ v
+    by-test true q h = leb-true low v q
+    by-test false q h = absurd (true≢false (sym h))
 
 -- ---- what a test that passed says
 either : (a b : Bool) → a || b ≡ true → (a ≡ true) ⊎ (b ≡ true)
@@ -82,3 +90,23 @@ module _ (plants segments ownerKind owner : ℕ) where
 
   pub owner-neither : (ownerKind ≡ plantOwner → ⊥) → (ownerKind ≡ segmentOwner → ⊥) → ownerAllowed plants segments ownerKind owner ≡ false
   owner-neither p q = rw (ne-eqb ownerKind plantOwner p, ne-eqb ownerKind segmentOwner q) refl
+
+-- ---- what they are where the test passed: the next segment, by the kind
+pub next-is : (segments own kind next : ℕ) → kindAllowed kind ≡ true → nextAllowed segments own kind next ≡ true → (next ≡ 0) ⊎ ((own < next) × (next ≤ segments))
+next-is segments own kind next k h = by-kind (decLe kind intermediateStorage)
+  where
+    by-kind : Dec (kind ≤ intermediateStorage) → (next ≡ 0) ⊎ ((own < next) × (next ≤ segments))
+    by-kind (yes p) =
+        let e : within (suc own) segments next ≡ true = sym (next-after segments own kind next (at-least pipeline store kind k) p) ∙ h in
+        inr (at-least (suc own) segments next e, at-most (suc own) segments next e)
+    by-kind (no p) =
+        let last : kind ≡ store = omega (arith, at-most pipeline store kind k) in
+        inl (eqb-true next 0 (sym (next-none segments own kind next last) ∙ h))
+
+-- an owner of either kind has a number
+pub some-owner : (plants segments ownerKind owner : ℕ) → ownerKind ≤ segmentOwner → ownerAllowed plants segments ownerKind owner ≡ true → 1 ≤ owner
+some-owner plants segments ownerKind owner k h = by-kind (decLe ownerKind plantOwner)
+  where
+    by-kind : Dec (ownerKind ≤ plantOwner) → 1 ≤ owner
+    by-kind (yes p) = at-least 1 plants owner (sym (owner-plant plants segments ownerKind owner (omega arith)) ∙ h)
+    by-kind (no p) = at-least 1 segments owner (sym (owner-segment plants segments ownerKind owner (omega arith)) ∙ h)
