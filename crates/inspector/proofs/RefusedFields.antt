@@ -42,18 +42,18 @@ unfolding fieldAt
 records-due h (plant-field {place} its) =
     let of-header : headerNumbers ≤ place = omega (arith, its) in
     let here : (place - headerNumbers) / plantFields < h .plants = omega (arith, its) in
-    simp (le-ltb, lt-ltb)
+    simp (le-ltb, lt-ltb) refl
 records-due h (segment-field {place} its) =
     let of-header : headerNumbers ≤ place = omega (arith, its) in
     let of-plants : h .plants ≤ (place - headerNumbers) / plantFields = omega (arith, its) in
     let here : (place - headerNumbers - plantFields * h .plants) / segmentFields < h .segments = omega (arith, its) in
-    simp (le-ltb, lt-ltb)
+    simp (le-ltb, lt-ltb) refl
 records-due h (line-field {place} its) =
     let of-header : headerNumbers ≤ place = omega (arith, its) in
     let of-plants : h .plants ≤ (place - headerNumbers) / plantFields = omega (arith, its) in
     let of-segments : h .segments ≤ (place - headerNumbers - plantFields * h .plants) / segmentFields = omega (arith, its) in
     let here : (place - headerNumbers - plantFields * h .plants - segmentFields * h .segments) / lineFields < h .lines = omega (arith, its) in
-    simp (le-ltb, lt-ltb)
+    simp (le-ltb, lt-ltb) refl
 
 -- so is the refusal of a field that reading came to, where it is none of the faults of numbers
 field-due :

@@ -1,4 +1,5 @@
 -- `inspector::field::field_at` meets its contract: it makes the tests of the definition, in their order. Assumes nothing.
+use mathlib.Core.Path.{refl}
 use native.Mathlib.Numerals.{add-one}
 use borrow.Author.Needs.{needs}
 use borrow.Author.Tests.{lt-ltb, le-ltb}
@@ -10,7 +11,7 @@ returns : tie.Need-returns
 unfolding fieldAt
 returns c =
     let of-header = c .if1 .taken in
-    rw lt-ltb
+    rw lt-ltb refl
 
 enum-known-header : tie.Need-enum-known-header
 enum-known-header c = search needs
@@ -22,7 +23,7 @@ returns-2 : tie.Need-returns-2
 unfolding fieldAt
 returns-2 c =
     let after-header = c .before .before .if1 .left in
-    rw (c .enum-told .given .1, le-ltb)
+    rw (c .enum-told .given .1, le-ltb) refl
 
 add-t13 : tie.Need-add-t13
 add-t13 c = search needs
@@ -32,7 +33,7 @@ unfolding fieldAt
 returns-3 c =
     let after-header = c .before .before .before .before .if1 .left in
     let of-plant = c .if2 .taken in
-    simp (c .before .before .header .given .1, le-ltb, lt-ltb, add-one)
+    simp (c .before .before .header .given .1, le-ltb, lt-ltb, add-one) refl
 
 mul-index : tie.Need-mul-index
 mul-index c = search needs
@@ -49,7 +50,7 @@ returns-4 c =
     let after-header = c .before .before .before .before .before .if1 .left in
     let after-plants = c .before .if2 .left in
     let of-segment = c .if3 .taken in
-    simp (c .before .before .before .header .given .1, le-ltb, lt-ltb, add-one)
+    simp (c .before .before .before .header .given .1, le-ltb, lt-ltb, add-one) refl
 
 mul-index-2 : tie.Need-mul-index-2
 mul-index-2 c = search needs
@@ -67,7 +68,7 @@ returns-5 c =
     let after-plants = c .before .before .if2 .left in
     let after-segments = c .before .if3 .left in
     let of-line = c .if4 .taken in
-    simp (c .before .before .before .before .header .given .1, le-ltb, lt-ltb, add-one)
+    simp (c .before .before .before .before .header .given .1, le-ltb, lt-ltb, add-one) refl
 
 returns-6 : tie.Need-returns-6
 unfolding fieldAt
@@ -76,7 +77,7 @@ returns-6 c =
     let after-plants = c .before .before .if2 .left in
     let after-segments = c .before .if3 .left in
     let after-lines = c .if4 .left in
-    simp (c .before .before .before .before .header .given .1, le-ltb)
+    simp (c .before .before .before .before .header .given .1, le-ltb) refl
 
 pub field-at-spec : {M : Type 1} → statement M
 field-at-spec =
