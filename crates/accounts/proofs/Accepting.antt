@@ -80,6 +80,7 @@ charged-somewhere (suc emission) zero e = absurd (true≢false (sym both ∙ e))
     both = rw (lt-ltb 0 (suc emission) (omega arith), eq-eqb 0 0 refl) refl
 charged-somewhere (suc emission) (suc inflow) e = inr (omega arith)
 
+-- so it is with each account
 sound-each :
     (accounts : List Account) → NoneFails (segmentTests accounts) →
     (index : ℕ) (none : Account) → index < length accounts → Sound (getD accounts index none)
@@ -92,6 +93,13 @@ sound-each (a ∷ accounts) (holds i (holds o (holds e more))) zero none below =
 }
 sound-each (a ∷ accounts) (holds i (holds o (holds e more))) (suc index) none below =
     sound-each accounts more index none (omega (arith, below))
+
+-- ---- what the tables satisfy when 14 and 15 do not refuse them
+pub table-room :
+    (plants segments plantTable segmentTable : ℕ) → NoneFails (tableTests plants segments plantTable segmentTable) →
+    (plantNumbers * plants ≤ plantTable) × (segmentNumbers * segments ≤ segmentTable)
+table-room plants segments plantTable segmentTable (holds p (holds s rest)) =
+    (ltb-false plantTable (plantNumbers * plants) p, ltb-false segmentTable (segmentNumbers * segments) s)
 
 -- ---- the whole period
 pub record Means (period : Period) (plants segments : List ℕ) : Type 0 where
@@ -117,6 +125,7 @@ account-at period index none below =
 module _
     (period : Period) (plantTable segmentTable : ℕ) (plants segments : List ℕ)
     (accepting : judged period (accountsOf period) plantTable segmentTable ≡ accepted plants segments) where
+  -- its tests that are left after reading: of the lines, of the segments, of the tables
   abbrev of-lines : List Test
   of-lines = lineTests (period .lines) 0 (period .lines)
 
@@ -135,6 +144,7 @@ module _
   unfolding judged
   rows-are = sym (none-answers (rows period (accountsOf period)) none) ∙ accepting
 
+  -- nor does one of those behind the lines
   none-behind : NoneFails (of-segments ++ of-tables)
   none-behind = none-of-both of-lines (of-segments ++ of-tables) none .1
 
@@ -160,11 +170,8 @@ module _
 
   -- and each table is as long as 14 and 15 ask
   judged-room : (plantNumbers * length (period .plants) ≤ plantTable) × (segmentNumbers * length (period .segments) ≤ segmentTable)
-  judged-room = by-tests (none-of-both of-segments of-tables none-behind .1)
-    where
-      by-tests : NoneFails of-tables → (plantNumbers * length (period .plants) ≤ plantTable) × (segmentNumbers * length (period .segments) ≤ segmentTable)
-      by-tests (holds p (holds s rest)) =
-          (ltb-false plantTable (plantNumbers * length (period .plants)) p, ltb-false segmentTable (segmentNumbers * length (period .segments)) s)
+  judged-room =
+      table-room (length (period .plants)) (length (period .segments)) plantTable segmentTable (none-of-both of-segments of-tables none-behind .1)
 
 -- ---- a file that is accepted
 -- what its period satisfies, and its rows

@@ -20,7 +20,7 @@ use Rattle.records.specs.Plants.{noPlant}
 use Rattle.records.specs.Classes.{plantOwner}
 use Rattle.records.specs.Periods.{Period}
 use Rattle.accounts.specs.Emissions.{ownedBy, chosen, emission}
-use Rattle.accounts.specs.Walk.{nowhere, starting}
+use Rattle.accounts.specs.Walk.{nowhere, atFirst}
 use Rattle.accounts.specs.Accounts.{hasBit}
 use Rattle.accounts.specs.Rows.{plantRow}
 use Rattle.accounts.specs.Order.{plantNumbers, segmentNumbers}
@@ -41,7 +41,7 @@ use Rattle.accounts.proofs.Meeting.{on-route-within, meet-exactly, othe
 -- ---- the row of a plant that is alone on its route, by its number, record, lines and route
 unfoldable rowAlone : (index : ℕ) (plant : Plant) (lines : List Line) (route : List Leg) → List ℕ
 rowAlone index plant lines route =
-    plantRow plant (lastOutflow (starting plant .amount) route) (emission plantOwner (suc index) lines + emissionsAlong route)
+    plantRow plant (lastOutflow (atFirst plant .amount) route) (emission plantOwner (suc index) lines + emissionsAlong route)
 
 module _
     {period : Period} {plants segments : List ℕ} (means : Means period plants segments) (index : ℕ) (there : index < length (period .plants))
@@ -64,8 +64,8 @@ module _
       ≡ rowAlone index (getD (period .plants) index noPlant) (chosen (ownedBy plantOwner (suc index)) (period .lines)) (routeOf period index)
   unfolding rowAlone routeOf accountsOf
   row-alone =
-      let starts : getD (started period) index nowhere ≡ starting (getD (period .plants) index noPlant) =
-      List·getD-map starting (period .plants) index noPlant in
+      let starts : getD (started period) index nowhere ≡ atFirst (getD (period .plants) index noPlant) =
+      List·getD-map atFirst (period .plants) index noPlant in
       plant-row-at means index there
       ∙ ap₂
       (plantRow (getD (period .plants) index noPlant))
@@ -88,15 +88,16 @@ alone-on-its-route accepted₁ accepted₂ index there₁ there₂ same alone₁
 -- ---- by the sets that the rows show
 module _ {file plants segments : List ℕ} (given : Accepted file plants segments) where
   module _ (s : ℕ) (here : s < length (held file .segments)) where
-    -- the set in a segment's row is that of its account
+    -- the set that a segment's row shows
     abbrev shown : ℕ
     shown = inRow segmentNumbers s setColumn segments
 
+    -- is that of its account
     row-set : shown ≡ accountAt (held file) s .plants
     row-set = ap (λ (row : List ℕ). getD row setColumn 0) (segment-row-at (accepted-means given) s here)
 
     -- it has a plant exactly where the plant's route passes
-    pub row-has : (p : ℕ) → p < length (held file .plants) → hasBit shown p ≡ on (suc s) (routeOf (held file) p)
+    row-has : (p : ℕ) → p < length (held file .plants) → hasBit shown p ≡ on (suc s) (routeOf (held file) p)
     row-has p among = rw row-set (set-is-route (held file) s here p among)
 
     -- and nothing else

@@ -46,6 +46,7 @@ pub record Undivided (lines : List Line) (p : ℕ) (turn : Turn) : Type 0 where
       passes (turn .own) (getD (turn .standings) q nowhere) ≡ false
 
 module _ (lines : List Line) (p : ℕ) (turn : Turn) (alone : Undivided lines p turn) where
+  -- where the plant stands when the turn begins
   abbrev standing : Standing
   standing = getD (turn .standings) p nowhere
 

@@ -6,17 +6,17 @@ use lib.ListN.{length, length-map, getD, List·getD-map}
 use lib.Seq.{ext-getD}
 use Rattle.records.specs.declared.plant.Plant.{Plant}
 use Rattle.records.specs.Plants.{noPlant}
-use Rattle.accounts.specs.Walk.{nowhere, starting}
+use Rattle.accounts.specs.Walk.{nowhere, atFirst}
 
 pub same-starts :
     (one two : List Plant) → length two ≡ length one →
     ((index : ℕ) → getD two index noPlant .exported ≡ getD one index noPlant .exported) →
     ((index : ℕ) → getD two index noPlant .first ≡ getD one index noPlant .first) →
-    map starting two ≡ map starting one
+    map atFirst two ≡ map atFirst one
 same-starts one two count exported first =
     ext-getD
-    nowhere (map starting two) (map starting one) (length-map two starting ∙ count ∙ sym (length-map one starting))
-    (λ index below. List·getD-map starting two index noPlant ∙ same-start index ∙ sym (List·getD-map starting one index noPlant))
+    nowhere (map atFirst two) (map atFirst one) (length-map two atFirst ∙ count ∙ sym (length-map one atFirst))
+    (λ index below. List·getD-map atFirst two index noPlant ∙ same-start index ∙ sym (List·getD-map atFirst one index noPlant))
   where
-    same-start : (index : ℕ) → starting (getD two index noPlant) ≡ starting (getD one index noPlant)
+    same-start : (index : ℕ) → atFirst (getD two index noPlant) ≡ atFirst (getD one index noPlant)
     same-start index = cc (exported index, first index)

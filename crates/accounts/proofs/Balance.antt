@@ -2,14 +2,13 @@
 -- segment lost by its meters. This is said of the rows that the call gives.
 use Prim.Native.Nat.{ℕ, zero, suc, _+_, _-_, _≤_, _<_}
 use mathlib.Core.Path.{_≡_, refl, sym, ap, _∙_}
-use mathlib.Core.Bool.{Bool, true, false}
 use mathlib.Core.List.{List, [], _∷_, map, zipWith}
 use native.Mathlib.Omega.{arith}
 use lib.ListN.{length, length-map, getD}
 use lib.Seq.{take-all}
 use Rattle.records.specs.Plants.{noPlant}
 use Rattle.records.specs.Periods.{Period}
-use Rattle.accounts.specs.Walk.{Standing, nowhere, starting, passes, brings, amounts, sum, credits, sentOn, passed, Turn, arrived}
+use Rattle.accounts.specs.Walk.{Standing, nowhere, atFirst, amounts, sum, credits, sentOn, passed, Turn, arrived}
 use Rattle.accounts.specs.Accounts.{account}
 use Rattle.accounts.specs.Order.{plantNumbers, segmentNumbers}
 use Rattle.accounts.specs.Quantified.{started, stores}
@@ -17,7 +16,7 @@ use Rattle.accounts.specs.Accepted.{Accepted, held}
 use Rattle.accounts.specs.Tables.{inRow, columnSum, exportedColumn, storedColumn, lossColumn}
 use Rattle.accounts.specs.Shares.{turnAt, entering, afterwards}
 use Rattle.accounts.proofs.Credits.{credits-sum, credited-most}
-use Rattle.accounts.proofs.Walks.{getD-map, credited}
+use Rattle.accounts.proofs.Walks.{getD-map, one-sent, credited}
 use Rattle.accounts.proofs.Accepting.{Means, accepted-means}
 use Rattle.accounts.proofs.RowsAt.{plant-row-at, segment-row-at, column-is}
 use Rattle.accounts.proofs.Turned.{after, after-all, after-length, turn-standings, turned, outflow-most}
@@ -31,18 +30,6 @@ amountsHeld = map amountHeld
 
 -- ---- one turn
 module _ (own next : ℕ) where
-  -- a plant that passes gives its amount for its credit; one that does not keeps its amount and is credited nothing
-  pub one-sent :
-      (standing : Standing) (credit : ℕ) → credit ≤ brings own standing →
-      sentOn own next standing credit .amount + brings own standing ≡ standing .amount + credit
-  one-sent standing credit less = by-test (passes own standing) refl less
-    where
-      by-test :
-          (t : Bool) → passes own standing ≡ t → credit ≤ brings own standing →
-          sentOn own next standing credit .amount + brings own standing ≡ standing .amount + credit
-      by-test true e less = rw e (omega arith)
-      by-test false e less = rw e (omega (arith, rw e at less))
-
   -- all plants, one by one
   all-sent :
       (standings : List Standing) (shares : List ℕ) → length shares ≡ length standings →
@@ -53,7 +40,7 @@ module _ (own next : ℕ) where
   all-sent [] (share ∷ shares) long less = absurd (omega (arith, long))
   all-sent (standing ∷ standings) [] long less = absurd (omega (arith, long))
   all-sent (standing ∷ standings) (share ∷ shares) long less =
-      let first = one-sent standing share (less 0) in
+      let first = one-sent own next standing share (less 0) in
       let others = all-sent standings shares (omega (arith, long)) (λ p. less (suc p)) in
       omega (arith, first, others)
 
@@ -103,9 +90,9 @@ module _ {period : Period} {plants segments : List ℕ} (means : Means period pl
 
   -- they start with what they export
   exported-told : columnSum plantNumbers exportedColumn (length (period .plants)) plants ≡ sum (amountsHeld (started period))
-  exported-told = column-held exportedColumn (started period) (length-map (period .plants) starting) (λ p plant.
+  exported-told = column-held exportedColumn (started period) (length-map (period .plants) atFirst) (λ p plant.
       ap (λ (row : List ℕ). getD row exportedColumn 0) (plant-row-at means p plant)
-      ∙ sym (ap amountHeld (getD-map starting (period .plants) p noPlant nowhere plant)))
+      ∙ sym (ap amountHeld (getD-map atFirst (period .plants) p noPlant nowhere plant)))
 
   -- and end with what they have stored
   stored-told : columnSum plantNumbers storedColumn (length (period .plants)) plants ≡ sum (amountsHeld (stores period))
@@ -119,6 +106,7 @@ module _ {period : Period} {plants segments : List ℕ} (means : Means period pl
       ≡ columnSum plantNumbers storedColumn (length (period .plants)) plants + columnSum segmentNumbers lossColumn (length (period .segments)) segments
   balanced = exported-told ∙ rw (stored-told, ← after-all period) (lost-so-far (length (period .segments)) (omega arith))
 
+-- so it is in every file that the call accepts
 pub balance :
     {file plants segments : List ℕ} → Accepted file plants segments →
     let P = length (held file .plants) in

@@ -16,6 +16,7 @@ use Rattle.accounts.specs.Accounts.{hasBit}
 abbrev pub digit : Bool → ℕ
 digit t = cond t 1 0
 
+-- it is one of two
 pub digit-below : (t : Bool) → digit t < 2
 digit-below true = omega arith
 digit-below false = omega arith

@@ -2,7 +2,7 @@
 use Prim.Native.Nat.{ℕ, zero, suc, _+_, _-_, _*_, _≤_, _<_}
 use mathlib.Core.Path.{_≡_, refl}
 use mathlib.Core.List.{List}
-use native.Mathlib.Nat.{le-trans, zero-mul, mul-comm, mul-le-mul-left, div-zero, div-mul-le-self, div-lt-iff-lt-mul, lt-div-mul-add}
+use native.Mathlib.Nat.{le-trans, zero-mul, mul-le-mul-left, div-zero, div-mul-le-self, div-lt-iff-lt-mul, lt-div-mul-add}
 use native.Mathlib.Omega.{arith}
 use lib.ListN.{getD}
 use Rattle.records.specs.declared.line.Line.{Line}
@@ -11,7 +11,7 @@ use Rattle.accounts.specs.Emissions.{emission}
 use Rattle.accounts.specs.Walk.{sum, Turn}
 use Rattle.accounts.specs.Accounts.{Account, account, charge, chargeTo}
 use Rattle.accounts.specs.Shares.{entering}
-use Rattle.accounts.proofs.Credits.{div-mono, up-most}
+use Rattle.accounts.proofs.Credits.{div-mono, up-part}
 
 -- ---- a segment's account, and the charge for an amount
 module _ (a : Account) where
@@ -40,8 +40,7 @@ module _ (a : Account) where
 
   -- for no more than the inflow it is no more than the emission
   pub charge-within : (amount : ℕ) → amount ≤ a .inflow → charge a amount ≤ a .emission
-  charge-within amount part =
-      up-most (a .inflow) (amount * a .emission) (a .emission) (omega (arith, mul-le-mul-left (a .emission) part, mul-comm amount (a .emission)))
+  charge-within amount = up-part (a .inflow) amount (a .emission)
 
 -- ---- where the lines give a segment a larger emission, no plant's charge there is less: its amount and the inflow are the same
 pub charge-no-less :

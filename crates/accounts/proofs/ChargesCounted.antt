@@ -18,10 +18,11 @@ use Rattle.accounts.specs.Quantified.{started, walk, accountsOf}
 use Rattle.accounts.specs.Accepted.{Accepted, held}
 use Rattle.accounts.specs.Tables.{inRow, columnSum, associatedColumn}
 use Rattle.accounts.specs.Shares.{entering, charged, ownEmissions}
+use Rattle.accounts.proofs.Credits.{sum-snoc}
 use Rattle.accounts.proofs.Walks.{passed-length}
 use Rattle.accounts.proofs.Charges.{charge-nothing}
 use Rattle.accounts.proofs.Accepting.{Means, accepted-means}
-use Rattle.accounts.proofs.RowsAt.{plant-row-at, sum-snoc}
+use Rattle.accounts.proofs.RowsAt.{plant-row-at}
 
 -- one number more of a list, or 0 behind its last
 sum-one-more : (numbers : List ℕ) (count : ℕ) → sum (take (suc count) numbers) ≡ sum (take count numbers) + getD numbers count 0

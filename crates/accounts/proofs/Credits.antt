@@ -1,7 +1,8 @@
--- Laws of sums and of credits: each is the plant's proportional part, rounded, and no more than it brought; all add up to the outflow.
+-- Laws of sums, of division and rounding, and of credits: each is the plant's proportional part, rounded, and no more than it brought; all
+-- add up to the outflow.
 use Prim.Native.Nat.{ℕ, zero, suc, _+_, _-_, _*_, _/_, _≤_, _<_}
 use mathlib.Core.Path.{_≡_, refl, sym, ap, _∙_}
-use mathlib.Core.List.{List, [], _∷_}
+use mathlib.Core.List.{List, [], _∷_, _++_}
 use mathlib.Core.Logic.{_⊎_, inl, inr}
 use native.Mathlib.Nat.{add-zero, add-assoc, mul-comm, add-mul, mul-le-mul-left, not-suc-le-zero, le-of-suc-le-suc}
 use native.Mathlib.Nat.{div-zero, mul-div-cancel-left, div-mul-le-self, le-div-iff-mul-le, div-lt-iff-lt-mul, lt-div-mul-add}
@@ -24,6 +25,12 @@ unfolding sum
 part-of-sum [] i = omega arith
 part-of-sum (n ∷ ns) zero = omega arith
 part-of-sum (n ∷ ns) (suc i) = omega (arith, part-of-sum ns i)
+
+-- one number more at the end of a list
+pub sum-snoc : (numbers : List ℕ) (n : ℕ) → sum (numbers ++ n ∷ []) ≡ sum numbers + n
+unfolding sum
+sum-snoc [] n = omega arith
+sum-snoc (m ∷ numbers) n = omega (arith, sum-snoc numbers n)
 
 -- ---- division
 -- it does not turn an order round, also by 0
@@ -48,7 +55,11 @@ up-most (suc d) n most h =
     let below : roundedUp n (suc d) < suc most = div-lt-iff-lt-mul {k = suc d} (omega arith) .1 (omega (arith, h)) in
     omega (arith, below)
 
--- so at most one more than rounded down
+-- a part of a whole is no more than the whole
+pub up-part : (d amount whole : ℕ) → amount ≤ d → roundedUp (amount * whole) d ≤ whole
+up-part d amount whole part = up-most d (amount * whole) whole (omega (arith, mul-le-mul-left whole part, mul-comm amount whole))
+
+-- at most one more than rounded down
 up-next : (d n : ℕ) → 0 < d → roundedUp n d ≤ suc (n / d)
 up-next d n some = up-most d n (suc (n / d)) (omega (arith, lt-div-mul-add {a = n} {b = d} some))
 
@@ -59,7 +70,7 @@ credits-length inflow outflow before [] = refl
 credits-length inflow outflow before (amount ∷ rest) = ap suc (credits-length inflow outflow (before + amount) rest)
 
 -- the credit at an index is that of the amount there, with the sum of the amounts before it
-pub credit-at :
+credit-at :
     (inflow outflow before : ℕ) (entering : List ℕ) (p : ℕ) → p < length entering →
     getD (creditsFrom inflow outflow before entering) p 0 ≡ credit inflow outflow (before + sum (take p entering)) (getD entering p 0)
 unfolding creditsFrom sum
@@ -71,6 +82,7 @@ credit-at inflow outflow before (amount ∷ rest) (suc p) h =
 
 -- ---- a credit is the plant's proportional part, rounded
 module _ (inflow outflow before amount : ℕ) where
+  -- the plant's proportional part, rounded down and rounded up
   abbrev down : ℕ
   down = amount * outflow / inflow
 
@@ -83,6 +95,7 @@ module _ (inflow outflow before amount : ℕ) where
       × ((before + amount) * outflow / inflow ≤ before * outflow / inflow + up)
   shared = rw (add-mul before amount outflow) (div-sum inflow (before * outflow) (amount * outflow))
 
+  -- so its credit is the one or the other
   credit-rounded : 0 < inflow → (credit inflow outflow before amount ≡ down) ⊎ (credit inflow outflow before amount ≡ up)
   credit-rounded some = by-side (decLe (credit inflow outflow before amount) down)
     where
@@ -96,7 +109,7 @@ module _ (inflow outflow before amount : ℕ) where
       by-side (no more) = inr (omega (arith, shared, more, next))
 
   -- no credit is over what the plant brought
-  pub credit-most : outflow ≤ inflow → credit inflow outflow before amount ≤ amount
+  credit-most : outflow ≤ inflow → credit inflow outflow before amount ≤ amount
   credit-most h = omega (arith, shared, up-most inflow (amount * outflow) amount (mul-le-mul-left amount h))
 
 -- the same of the credit at an index: the plant's proportional part, rounded

@@ -35,6 +35,7 @@ numbers export₁ export₂ outflow₁ kind₂ outflow₂ quantity factor =
 abbrev pub file : List ℕ → List ℕ
 file = flatMap written
 
+-- The whole period as 01 has it.
 abbrev pub whole : List ℕ
 whole = file (numbers 10000 5001 14900 6 14899 2000 350)
 

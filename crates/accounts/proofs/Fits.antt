@@ -18,7 +18,7 @@ use Rattle.records.specs.Periods.{Period}
 use Rattle.records.specs.Within.{Each, PlantWithin}
 use Rattle.records.proofs.Within.{each-at}
 use Rattle.accounts.specs.Emissions.{gramsInKg, gramsOf, emission}
-use Rattle.accounts.specs.Walk.{Standing, nowhere, brings, starting, sum, Turn, arrived}
+use Rattle.accounts.specs.Walk.{Standing, nowhere, atFirst, brings, sum, Turn, arrived}
 use Rattle.accounts.specs.Accounts.{Account, account, chargeTo, charges}
 use Rattle.accounts.specs.Rows.{kgInUnit, plantRow, associated, segmentRow}
 use Rattle.accounts.specs.Order.{plantNumbers, segmentNumbers}
@@ -29,11 +29,10 @@ use Rattle.accounts.specs.Shares.{turnAt, accountAt, entering, leaving}
 use Rattle.accounts.proofs.Credits.{part-of-sum, up-most, credited-most}
 use Rattle.accounts.proofs.Charges.{charge-within}
 use Rattle.accounts.proofs.Sets.{set-below}
-use Rattle.accounts.proofs.Walks.{getD-map, turns-length}
+use Rattle.accounts.proofs.Walks.{getD-map, one-sent, turns-length}
 use Rattle.accounts.proofs.Accepting.{Means, accepted-means}
 use Rattle.accounts.proofs.RowsAt.{plant-row-at, segment-row-at, plants-long, segments-long}
 use Rattle.accounts.proofs.Turned.{after, after-all, turn-standings, turn-plants, turned, sent, outflow-most}
-use Rattle.accounts.proofs.Balance.{one-sent}
 
 -- ---- a table, row by row
 -- a number of a table is one of its row
@@ -60,6 +59,7 @@ entries-by-rows numbers count table some long each i = by-row (decLe (suc (i / n
 abbrev EachFits : ℕ → List ℕ → Type 0
 EachFits = Each (λ (at number : ℕ). number < 2 ^ entryBits)
 
+-- where each fits, they are entries
 row-entries : (at : ℕ) (row : List ℕ) → EachFits at row → Entries row
 unfolding Each
 row-entries at [] all i = omega arith
@@ -85,6 +85,26 @@ segment-row-fits :
 unfolding Each
 segment-row-fits inflow outflow emission plants small less few members = omega arith
 
+-- ---- no plant's amount grows on its way, as long as no more leaves a segment than enters it
+pub kept-so-far :
+    (period : Period) (p : ℕ) → p < length (period .plants) → (s : ℕ) → s ≤ length (period .segments) →
+    ((j : ℕ) → j < s → turnAt period j .segment .outflow ≤ sum (entering (turnAt period j))) →
+    getD (after period s) p nowhere .amount ≤ getD (period .plants) p noPlant .exported
+unfolding arrived
+kept-so-far period p plant zero fits less = rw (getD-map atFirst (period .plants) p noPlant nowhere plant) (omega arith)
+kept-so-far period p plant (suc s) fits less =
+    let below : s < length (period .segments) = omega (arith, fits) in
+    let turn : Turn = turnAt period s in
+    let standing : Standing = getD (turn .standings) p nowhere in
+    let credit : ℕ = getD (leaving turn) p 0 in
+    let brought : getD (entering turn) p 0 ≡ brings (turn .own) standing =
+    getD-map (brings (turn .own)) (turn .standings) p nowhere 0 (rw (turn-plants period s below) plant) in
+    let most : credit ≤ brings (turn .own) standing =
+    rw brought at (credited-most (turn .segment .outflow) (entering turn) p (less s (omega arith))) in
+    let before = rw (← turn-standings period s below) at (kept-so-far period p plant s (omega (arith, fits)) (λ j early. less j (omega (arith, early)))) in
+    rw (turned period s below, sent period s p below plant)
+    (omega (arith, one-sent (turn .own) (turn .segment .next) standing credit most, most, before))
+
 -- ---- an accepted period
 module _ {period : Period} {plants segments : List ℕ} (means : Means period plants segments) where
   -- no emission is over the largest number of a file
@@ -101,6 +121,7 @@ module _ {period : Period} {plants segments : List ℕ} (means : Means period pl
       (charge-within (account (period .lines) turn) (getD (entering turn) index 0) (part-of-sum (entering turn) index))
       (emission-most segmentOwner (turn .own))
 
+  -- nor are all charges of a plant over as much for each segment
   charges-most : (index : ℕ) (walked : List Turn) → charges index (map (account (period .lines)) walked) ≤ length walked * largest
   unfolding sum
   charges-most index [] = omega arith
@@ -118,27 +139,9 @@ module _ {period : Period} {plants segments : List ℕ} (means : Means period pl
         means .within .most-segments,
       )
 
-  -- ---- no plant's amount grows on its way
-  kept-so-far :
-      (p : ℕ) → p < length (period .plants) → (s : ℕ) → s ≤ length (period .segments) →
-      getD (after period s) p nowhere .amount ≤ getD (period .plants) p noPlant .exported
-  unfolding arrived
-  kept-so-far p plant zero fits = rw (getD-map starting (period .plants) p noPlant nowhere plant) (omega arith)
-  kept-so-far p plant (suc s) fits =
-      let below : s < length (period .segments) = omega (arith, fits) in
-      let turn : Turn = turnAt period s in
-      let standing : Standing = getD (turn .standings) p nowhere in
-      let credit : ℕ = getD (leaving turn) p 0 in
-      let brought : getD (entering turn) p 0 ≡ brings (turn .own) standing =
-      getD-map (brings (turn .own)) (turn .standings) p nowhere 0 (rw (turn-plants period s below) plant) in
-      let less : credit ≤ brings (turn .own) standing =
-      rw brought at (credited-most (turn .segment .outflow) (entering turn) p (outflow-most means s below)) in
-      let before = rw (← turn-standings period s below) at (kept-so-far p plant s (omega (arith, fits))) in
-      rw (turned period s below, sent period s p below plant)
-      (omega (arith, one-sent (turn .own) (turn .segment .next) standing credit less, less, before))
-
+  -- no plant stores more than it exported
   stored-most : (p : ℕ) → p < length (period .plants) → getD (stores period) p nowhere .amount ≤ getD (period .plants) p noPlant .exported
-  stored-most p plant = rw (← after-all period) (kept-so-far p plant (length (period .segments)) (omega arith))
+  stored-most p plant = rw (← after-all period) (kept-so-far period p plant (length (period .segments)) (omega arith) (outflow-most means))
 
   -- ---- the two tables
   plants-fit : Entries plants
@@ -164,5 +167,6 @@ module _ {period : Period} {plants segments : List ℕ} (means : Means period pl
       (segment-row-fits (a .inflow) (a .outflow) (a .emission) (a .plants) (sound .inflow) (sound .outflow) (emission-most segmentOwner (turn .own))
       (lt-of-lt-of-le (set-below (turn .own) (turn .standings)) few))))
 
+-- so it is in every file that the call accepts
 pub rows-fit : {file plants segments : List ℕ} → Accepted file plants segments → Entries plants × Entries segments
 rows-fit given = (plants-fit (accepted-means given), segments-fit (accepted-means given))

@@ -89,6 +89,7 @@ units-no-more :
     getD (plantRow plant stored more) unitsColumn 0 ≤ getD (plantRow plant stored less) unitsColumn 0
 units-no-more plant stored less more h = div-mono kgInUnit _ _ (omega arith)
 
+-- so it is with the units in the plant's row
 pub larger-line :
     {file₁ plants₁ segments₁ file₂ plants₂ segments₂ : List ℕ} → Accepted file₁ plants₁ segments₁ → Accepted file₂ plants₂ segments₂ →
     OneLineLarger (held file₁) (held file₂) → (index : ℕ) → index < length (held file₁ .plants) →

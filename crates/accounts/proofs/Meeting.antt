@@ -17,7 +17,7 @@ use Rattle.records.specs.Plants.{noPlant}
 use Rattle.records.specs.Classes.{segmentOwner}
 use Rattle.records.specs.Periods.{Period}
 use Rattle.accounts.specs.Emissions.{ownedBy, chosen}
-use Rattle.accounts.specs.Walk.{Standing, nowhere, starting, passes, passed, Turn, arrived}
+use Rattle.accounts.specs.Walk.{Standing, nowhere, atFirst, passes, passed, Turn, arrived}
 use Rattle.accounts.specs.Accounts.{setOf, hasBit, account}
 use Rattle.accounts.specs.Quantified.{started}
 use Rattle.accounts.specs.Shares.{turnAt, accountAt}
@@ -116,6 +116,7 @@ module _ (lines : List Line) where
             rw (passed-at own segment standings p there, route-passes own segment rest before e, e, ne-eqb own number (λ is. omega arith))
         by-test false e = rw (passed-at own segment standings p there, route-leaves own segment rest before e, e)
 
+  -- so it is at the turn of every segment
   passes-on :
       (own : ℕ) (segments : List Segment) (standings : List Standing) (p : ℕ) → p < length standings →
       (s here : ℕ) → own + s ≡ here → s < length segments →
@@ -178,7 +179,7 @@ module _ (period : Period) where
         passes (turnAt period s .own) (getD (turnAt period s .standings) p nowhere) ≡ on (suc s) (routeOf period p)
     unfolding routeOf
     stands-before p there =
-        rw (turn-is period s here, ← ap (λ (standing : Standing). standing .before) (List·getD-map starting (period .plants) p noPlant))
+        rw (turn-is period s here, ← ap (λ (standing : Standing). standing .before) (List·getD-map atFirst (period .plants) p noPlant))
         (passes-on (period .lines) 1 (period .segments) (started period) p (rw length-map there) s (suc s) (omega arith) here)
 
     -- and so does the set that the segment's row shows: also a plant that exports 0 is in it

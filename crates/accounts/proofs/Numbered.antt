@@ -34,6 +34,7 @@ module _ (least : ℕ) where
   both [] rest each others = others
   both (test ∷ tests) rest each others = (each .0, both tests rest (each .1) others)
 
+  -- the tests of so many records
   of-each :
       (tests : ℕ → List Test) → ((index : ℕ) → FromLeast least (tests index)) → (from count : ℕ) → FromLeast least (testsOfEach tests from count)
   unfolding FromLeast testsOfEach
@@ -66,6 +67,7 @@ module _ (least : ℕ) where
 
 -- ---- all tests of a file: none has the number 0
 module _ (file : List ℕ) where
+  -- those of the header, of a plant, of a segment and of a line
   of-header : FromLeast 1 (headerTests file)
   unfolding FromLeast headerTests
   of-header = omega arith
@@ -82,6 +84,7 @@ module _ (file : List ℕ) where
   unfolding FromLeast lineFieldTests
   of-line index = omega arith
 
+  -- so all tests of reading
   of-reading : FromLeast 1 (readingTests file)
   unfolding FromLeast readingTests
   of-reading =
@@ -93,6 +96,7 @@ module _ (file : List ℕ) where
       (both 1 segments (lines ++ endTest file ∷ []) (of-each 1 (segmentFieldTests file) of-segment 0 (segmentCount file))
       (both 1 lines (endTest file ∷ []) (of-each 1 (lineFieldTests file) of-line 0 (lineCount file)) (omega arith))))
 
+  -- so no refusal has it
   pub refusal-numbered :
       (plantTable segmentTable number place : ℕ) → quantified file plantTable segmentTable ≡ refusal number place → 0 < number
   unfolding allTests

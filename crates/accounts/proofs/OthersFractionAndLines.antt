@@ -3,7 +3,7 @@
 -- fractions and lines can change is their own rows: the row of the plant that stays the same does not change, and no segment's does.
 use Prim.Native.Nat.{ℕ, suc, _<_}
 use mathlib.Core.Path.{_≡_, refl, sym, ap, _∙_}
-use mathlib.Core.Bool.{Bool, true, false, _||_}
+use mathlib.Core.Bool.{true, or-true}
 use mathlib.Core.List.{List, map, map-congr-left}
 use lib.Dec.{eqb}
 use lib.ListN.{length}
@@ -30,11 +30,7 @@ segment-kept : (index own : ℕ) (line : Line) → ownedBy segmentOwner own line
 segment-kept index own line its = rw (eq-eqb (line .«owner_kind») segmentOwner (owner-is segmentOwner own line its .0)) refl
 
 own-kept : (index : ℕ) (line : Line) → ownedBy plantOwner (suc index) line ≡ true → notOthers index line ≡ true
-own-kept index line its = rw its (by-test (eqb (line .«owner_kind») segmentOwner))
-  where
-    by-test : (t : Bool) → t || true ≡ true
-    by-test true = refl
-    by-test false = refl
+own-kept index line its = rw its (or-true (eqb (line .«owner_kind») segmentOwner))
 
 module _ {index : ℕ} {one two : Period} (change : OthersOwn index one two) where
   -- ---- the walk: every plant starts alike

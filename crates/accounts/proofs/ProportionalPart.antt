@@ -42,7 +42,7 @@ module _ {file plants segments : List ℕ} (given : Accepted file plants segment
         let turn = turnAt (held file) s in
         record {
           rounded = credited-rounded (turn .segment .outflow) (entering turn) p (enters (held file) s p segment plant) some;
-          no-more = sent-on .no-more;
+          sent-on = sent-on;
         }
 
   -- ---- a plant that is past its store stays as it is
@@ -95,4 +95,4 @@ module _ {file plants segments : List ℕ} (given : Accepted file plants segment
 
   -- and after the last segment every plant's CO2 is in one
   pub in-store : (p : ℕ) → p < length (held file .plants) → getD (stores (held file)) p nowhere .before ≡ 0
-  in-store = past-store (held file) (accepted-means given .within)
+  in-store = past-store (held file) (accepted-means given .within .plants) (accepted-means given .within .segments)

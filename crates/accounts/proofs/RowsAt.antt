@@ -10,15 +10,16 @@ use Rattle.records.specs.declared.plant.Plant.{Plant}
 use Rattle.records.specs.declared.line.Line.{Line}
 use Rattle.records.specs.Plants.{noPlant}
 use Rattle.records.specs.Periods.{Period}
-use Rattle.accounts.specs.Walk.{Standing, nowhere, starting, sum}
+use Rattle.accounts.specs.Walk.{Standing, nowhere, atFirst, sum}
 use Rattle.accounts.specs.Accounts.{Account}
 use Rattle.accounts.specs.Rows.{plantRow, associated, plantRows, segmentRow, segmentRows}
 use Rattle.accounts.specs.Order.{plantNumbers, segmentNumbers}
 use Rattle.accounts.specs.Quantified.{started, accountsOf, stores}
 use Rattle.accounts.specs.Tables.{rowAt, inRow, columnSum}
 use Rattle.accounts.specs.Shares.{accountAt}
-use Rattle.accounts.proofs.Accepting.{Means, accounts-length, account-at}
+use Rattle.accounts.proofs.Credits.{sum-snoc}
 use Rattle.accounts.proofs.Walks.{arrived-length}
+use Rattle.accounts.proofs.Accepting.{Means, accounts-length, account-at}
 
 -- ---- rows one after another: the first, and those behind it
 module _ (numbers : ℕ) (row rest : List ℕ) (whole : length row ≡ numbers) where
@@ -71,8 +72,9 @@ segment-rows (a ∷ accounts) (suc index) none below =
 -- ---- the tables have so many numbers
 -- every plant arrives somewhere
 pub stores-length : (period : Period) → length (stores period) ≡ length (period .plants)
-stores-length period = arrived-length 1 (period .segments) (started period) ∙ length-map (period .plants) starting
+stores-length period = arrived-length 1 (period .segments) (started period) ∙ length-map (period .plants) atFirst
 
+-- so many for each plant
 pub plant-rows-long :
     (lines : List Line) (accounts : List Account) (index : ℕ) (plants : List Plant) (end : List Standing) → length end ≡ length plants →
     length (plantRows lines accounts index plants end) ≡ plantNumbers * length plants
@@ -82,6 +84,7 @@ plant-rows-long lines accounts index (plant ∷ plants) [] same = absurd (omega 
 plant-rows-long lines accounts index (plant ∷ plants) (standing ∷ end) same =
     let others = plant-rows-long lines accounts (suc index) plants end (omega (arith, same)) in omega (arith, others)
 
+-- and for each segment
 pub segment-rows-long : (accounts : List Account) → length (segmentRows accounts) ≡ segmentNumbers * length accounts
 unfolding segmentRows
 segment-rows-long [] = refl
@@ -123,12 +126,6 @@ module _ {period : Period} {plants segments : List ℕ} (means : Means period pl
       (account-at period index (accountAt period index) below)
 
 -- ---- columns added up
--- one number more at the end of a list
-pub sum-snoc : (numbers : List ℕ) (n : ℕ) → sum (numbers ++ n ∷ []) ≡ sum numbers + n
-unfolding sum
-sum-snoc [] n = omega arith
-sum-snoc (m ∷ numbers) n = omega (arith, sum-snoc numbers n)
-
 -- tables with the same rows have the same columns
 pub column-same :
     (numbers column count : ℕ) (table table' : List ℕ) → ((index : ℕ) → index < count → rowAt numbers index table' ≡ rowAt numbers index table) →

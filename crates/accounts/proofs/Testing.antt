@@ -1,17 +1,13 @@
 -- Tests in their order: the first that fails gives the answer, and where none fails the answer stands.
 use Prim.Native.Nat.{ℕ}
-use mathlib.Core.Path.{_≡_, refl, sym, ap}
+use mathlib.Core.Path.{_≡_, refl, sym}
 use mathlib.Core.Bool.{Bool, true, false, cond, true≢false}
 use mathlib.Core.List.{List, [], _∷_, _++_}
 use Rattle.accounts.specs.Order.{Answer, refusal, accepted, Test, tested, FirstFails, here, later, NoneFails, end, holds}
 
 -- a refusal is no acceptance
 pub refused-not-accepted : {number place : ℕ} {plants segments : List ℕ} → refusal number place ≡ accepted plants segments → ⊥
-refused-not-accepted e = true≢false (ap is-refusal e)
-  where
-    is-refusal : Answer → Bool
-    is-refusal (refusal number place) = true
-    is-refusal (accepted plants segments) = false
+refused-not-accepted e = true≢false (cc)
 
 -- ---- the first test that fails gives the answer
 pub first-answers : {tests : List Test} {number place : ℕ} (answer : Answer) → FirstFails tests number place → tested tests answer ≡ refusal number place

@@ -11,21 +11,21 @@ use borrow.Author.Tests.{eqb-false}
 use Rattle.records.specs.Plants.{noPlant}
 use Rattle.records.specs.Segments.{noSegment}
 use Rattle.records.specs.Periods.{Period}
-use Rattle.records.specs.Within.{Within, PlantWithin, SegmentWithin}
+use Rattle.records.specs.Within.{Each, PlantWithin, SegmentWithin}
 use Rattle.records.proofs.Within.{each-at}
-use Rattle.accounts.specs.Walk.{Standing, nowhere, starting, passes, brings, sum, sentOn, Turn, arrived}
+use Rattle.accounts.specs.Walk.{Standing, nowhere, atFirst, passes, brings, sum, sentOn, passed, Turn, arrived}
 use Rattle.accounts.specs.Accounts.{account}
 use Rattle.accounts.specs.Quantified.{started, stores}
 use Rattle.accounts.specs.Shares.{noTurn, turnAt, entering, leaving, afterwards}
-use Rattle.accounts.proofs.Accepting.{Means}
 use Rattle.accounts.proofs.Walks.{getD-map, passed-at, arrived-length, arrived-on, turn-at}
+use Rattle.accounts.proofs.Accepting.{Means}
 
 -- ---- one plant on its way: after so many turns it stands before a segment that is still to come, or is past its store
 abbrev Ahead : (segments s : ℕ) → Standing → Type 0
 Ahead segments s standing = (standing .before ≡ 0) ⊎ ((s < standing .before) × (standing .before ≤ segments))
 
 -- a plant that passes goes to the next segment, which is later or none; one that does not stands before a later one already
-pub sent-ahead :
+sent-ahead :
     (segments s own next credit : ℕ) (standing : Standing) → own ≡ suc s → (next ≡ 0) ⊎ ((own < next) × (next ≤ segments)) →
     Ahead segments s standing → Ahead segments own (sentOn own next standing credit)
 sent-ahead segments s own next credit standing number later now = by-test (passes own standing) refl
@@ -44,7 +44,11 @@ module _ (period : Period) where
 
   -- there are as many as the period has
   pub after-length : (s : ℕ) → length (after s) ≡ length (period .plants)
-  after-length s = arrived-length 1 (take s (period .segments)) (started period) ∙ length-map (period .plants) starting
+  after-length s = arrived-length 1 (take s (period .segments)) (started period) ∙ length-map (period .plants) atFirst
+
+  -- after one turn more they are where that segment's turn sends them
+  pub after-on : (s : ℕ) → s < length (period .segments) → after (suc s) ≡ passed (suc s) (getD (period .segments) s noSegment) (after s)
+  after-on s below = arrived-on 1 (period .segments) (started period) s (suc s) (omega arith) below
 
   -- after all turns they are at the stores
   pub after-all : after (length (period .segments)) ≡ stores period
@@ -71,9 +75,7 @@ module _ (period : Period) where
 
     -- where they are when it ends
     pub turned : after (suc s) ≡ afterwards (turnAt period s)
-    turned =
-        arrived-on 1 (period .segments) (started period) s (suc s) (omega arith) below
-        ∙ sym (ap (λ (t : Turn). afterwards t) turn-is)
+    turned = after-on s below ∙ sym (ap (λ (t : Turn). afterwards t) turn-is)
 
   -- the first turn begins where the plants start
   pub first-turn : 0 < length (period .segments) → turnAt period 0 .standings ≡ started period
@@ -90,6 +92,7 @@ module _ (period : Period) where
 
   -- ---- one plant at the turn of a segment
   module _ (s p : ℕ) (below : s < length (period .segments)) (plant : p < length (period .plants)) where
+    -- where it stands when the turn begins
     abbrev standing : Standing
     standing = getD (turnAt period s .standings) p nowhere
 
@@ -108,7 +111,9 @@ module _ (period : Period) where
     sent = passed-at (turnAt period s .own) (turnAt period s .segment) (turnAt period s .standings) p here
 
   -- ---- every plant ends in a store
-  module _ (within : Within period) where
+  module _
+      (plants-within : Each (PlantWithin (length (period .segments))) 1 (period .plants))
+      (segments-within : Each (SegmentWithin (length (period .segments))) 1 (period .segments)) where
     -- the next segment is a later one, or none behind a store
     later-or-none :
         (s : ℕ) → s < length (period .segments) →
@@ -116,15 +121,15 @@ module _ (period : Period) where
         ⊎ ((turnAt period s .own < turnAt period s .segment .next) × (turnAt period s .segment .next ≤ length (period .segments)))
     later-or-none s below =
         rw (turn-is s below)
-        (each-at (SegmentWithin (length (period .segments))) 1 (period .segments) s noSegment (suc s) (omega arith) below (within .segments) .next)
+        (each-at (SegmentWithin (length (period .segments))) 1 (period .segments) s noSegment (suc s) (omega arith) below segments-within .next)
 
     module _ (p : ℕ) (plant : p < length (period .plants)) where
       -- so a plant is ahead after each turn
       ahead : (s : ℕ) → s ≤ length (period .segments) → Ahead (length (period .segments)) s (getD (after s) p nowhere)
       unfolding arrived
       ahead zero fits =
-          let one = each-at (PlantWithin (length (period .segments))) 1 (period .plants) p noPlant (suc p) (omega arith) plant (within .plants) in
-          rw (getD-map starting (period .plants) p noPlant nowhere plant) (inr (one .some-first, one .first))
+          let one = each-at (PlantWithin (length (period .segments))) 1 (period .plants) p noPlant (suc p) (omega arith) plant plants-within in
+          rw (getD-map atFirst (period .plants) p noPlant nowhere plant) (inr (one .some-first, one .first))
       ahead (suc s) fits =
           let below : s < length (period .segments) = omega (arith, fits) in
           let turn : Turn = turnAt period s in

@@ -1,7 +1,7 @@
 -- The walk, turn by turn: where the plants are when a segment's turn comes.
-use Prim.Native.Nat.{ℕ, zero, suc, _+_, _<_}
+use Prim.Native.Nat.{ℕ, zero, suc, _+_, _≤_, _<_}
 use mathlib.Core.Path.{_≡_, refl, ap, _∙_}
-use mathlib.Core.Bool.{false}
+use mathlib.Core.Bool.{Bool, true, false}
 use mathlib.Core.List.{List, [], _∷_, map, zipWith}
 use native.Mathlib.Omega.{arith}
 use lib.ListN.{length, length-map, take, getD}
@@ -33,6 +33,7 @@ getD-zip f (x ∷ l) (y ∷ m) (suc i) a b c same below = getD-zip f l m i a b c
 
 -- ---- one segment's turn
 module _ (own : ℕ) (segment : Segment) (standings : List Standing) where
+  -- what the plants bring to it
   abbrev entering : List ℕ
   entering = amounts own standings
 
@@ -40,6 +41,7 @@ module _ (own : ℕ) (segment : Segment) (standings : List Standing) where
   pub credited : length (credits (segment .outflow) entering) ≡ length standings
   credited = credits-length (sum entering) (segment .outflow) 0 entering ∙ length-map standings (brings own)
 
+  -- and as many plants afterwards
   pub passed-length : length (passed own segment standings) ≡ length standings
   unfolding passed
   passed-length = length-zip (sentOn own (segment .next)) standings (credits (segment .outflow) entering) credited
@@ -59,13 +61,27 @@ module _ (own : ℕ) (segment : Segment) (standings : List Standing) where
       getD (passed own segment standings) p nowhere ≡ getD standings p nowhere
   not-passed-at p below elsewhere = rw (passed-at p below, elsewhere) refl
 
+-- ---- one plant at a segment: where its route passes it gives its amount for its credit, else it keeps its amount and is credited nothing
+pub one-sent :
+    (own next : ℕ) (standing : Standing) (credit : ℕ) → credit ≤ brings own standing →
+    sentOn own next standing credit .amount + brings own standing ≡ standing .amount + credit
+one-sent own next standing credit less = by-test (passes own standing) refl less
+  where
+    by-test :
+        (t : Bool) → passes own standing ≡ t → credit ≤ brings own standing →
+        sentOn own next standing credit .amount + brings own standing ≡ standing .amount + credit
+    by-test true e less = rw e (omega arith)
+    by-test false e less = rw e (omega (arith, rw e at less))
+
 -- ---- the turns, one after another, from a segment's number on
+-- no plant is lost on the way
 pub arrived-length : (own : ℕ) (segments : List Segment) (standings : List Standing) → length (arrived own segments standings) ≡ length standings
 unfolding arrived
 arrived-length own [] standings = refl
 arrived-length own (segment ∷ rest) standings =
     arrived-length (suc own) rest (passed own segment standings) ∙ passed-length own segment standings
 
+-- there is one for each segment
 pub turns-length : (own : ℕ) (segments : List Segment) (standings : List Standing) → length (turns own segments standings) ≡ length segments
 unfolding turns
 turns-length own [] standings = refl

@@ -4,14 +4,14 @@ use mathlib.Core.List.{List, _++_, map}
 use lib.ListN.{length}
 use Rattle.records.specs.Fields.{Read, read, refused}
 use Rattle.records.specs.Periods.{Period, periodFile}
-use Rattle.accounts.specs.Walk.{Standing, starting, Turn, turns, arrived}
+use Rattle.accounts.specs.Walk.{Standing, atFirst, Turn, turns, arrived}
 use Rattle.accounts.specs.Accounts.{Account, account}
 use Rattle.accounts.specs.Rows.{plantRows, segmentRows}
 use Rattle.accounts.specs.Order.{Answer, refusal, accepted, tested, lineTests, segmentTests, tableTests}
 
 -- Where the plants of a period start.
 abbrev pub started : Period → List Standing
-started period = map starting (period .plants)
+started period = map atFirst (period .plants)
 
 -- The turns of the segments in rising number, from 1, and their accounts.
 abbrev pub walk : Period → List Turn

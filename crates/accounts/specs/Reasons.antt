@@ -66,6 +66,7 @@ unfoldable pub listed : {A : Type 0} → (ℕ → A) → (from count : ℕ) → 
 listed at from zero = []
 listed at from (suc count) = at from ∷ listed at (suc from) count
 
+-- the period that these records make
 unfoldable pub periodAt : List ℕ → Period
 periodAt file = record {
   plants = listed (plantAt file) 0 (plantCount file);
@@ -80,9 +81,11 @@ abbrev pub isFault : ℕ → Answer → Bool
 isFault refusal (oneNumber value next) = false
 isFault refusal (oneFault found) = eqb found refusal
 
+-- the test of number k for one of them
 abbrev pub faultTest : ℕ → List ℕ → ℕ → Test
 faultTest refusal file k = record { fails = isFault refusal (numberAt file k); number = refusal; place = k }
 
+-- for all three, in 01's order
 abbrev pub numberTests : List ℕ → ℕ → List Test
 numberTests file k = faultTest ends file k ∷ faultTest notShortest file k ∷ faultTest tooLarge file k ∷ []
 

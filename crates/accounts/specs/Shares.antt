@@ -55,13 +55,6 @@ amountOf turn index = getD (entering turn) index 0
 abbrev pub creditOf : Turn → ℕ → ℕ
 creditOf turn index = getD (leaving turn) index 0
 
--- Its credit is the proportional part, rounded down or up, and no more than it brings.
-pub record Credited (turn : Turn) (index : ℕ) : Type 0 where
-  pub rounded :
-      (creditOf turn index ≡ amountOf turn index * turn .segment .outflow / sum (entering turn))
-      ⊎ (creditOf turn index ≡ roundedUp (amountOf turn index * turn .segment .outflow) (sum (entering turn)))
-  pub no-more : creditOf turn index ≤ amountOf turn index
-
 -- It is sent on: with its credit, no more than it brings, to the next segment where its route passes; else it stays as it is.
 pub record SentOn (turn : Turn) (index : ℕ) : Type 0 where
   pub no-more : creditOf turn index ≤ amountOf turn index
@@ -71,6 +64,13 @@ pub record SentOn (turn : Turn) (index : ℕ) : Type 0 where
   pub stays :
       passes (turn .own) (getD (turn .standings) index nowhere) ≡ false →
       getD (afterwards turn) index nowhere ≡ getD (turn .standings) index nowhere
+
+-- Its credit is the proportional part, rounded down or up; and it is sent on, with no more than it brings.
+pub record Credited (turn : Turn) (index : ℕ) : Type 0 where
+  pub rounded :
+      (creditOf turn index ≡ amountOf turn index * turn .segment .outflow / sum (entering turn))
+      ⊎ (creditOf turn index ≡ roundedUp (amountOf turn index * turn .segment .outflow) (sum (entering turn)))
+  pub sent-on : SentOn turn index
 
 -- ---- all plants at a segment
 -- What its charges add up to, beside its emission, its inflow and the number of plants on it.

@@ -16,8 +16,8 @@ abbrev pub nowhere : Standing
 nowhere = record { before = 0; amount = 0 }
 
 -- "A plant's amount at its first segment is its export."
-abbrev pub starting : Plant → Standing
-starting plant = record { before = plant .first; amount = plant .exported }
+abbrev pub atFirst : Plant → Standing
+atFirst plant = record { before = plant .first; amount = plant .exported }
 
 -- Whether a plant's route passes a segment, asked when the segment's turn comes: the plant then stands before it.
 abbrev pub passes : ℕ → Standing → Bool
@@ -41,6 +41,7 @@ sum (n ∷ ns) = n + sum ns
 abbrev pub credit : (inflow outflow before amount : ℕ) → ℕ
 credit inflow outflow before amount = (before + amount) * outflow / inflow - before * outflow / inflow
 
+-- The credits of the plants from one on, where those before it bring so much.
 unfoldable pub creditsFrom : (inflow outflow before : ℕ) → List ℕ → List ℕ
 creditsFrom inflow outflow before [] = []
 creditsFrom inflow outflow before (amount ∷ rest) =

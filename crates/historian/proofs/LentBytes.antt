@@ -99,6 +99,7 @@ refusal-told (accepted plants segments) number place some is at = absurd (omega 
 
 -- ---- the caller's tables, before and after
 module _ {file plants segments : List ℕ} {outcome : Outcome} (promised : Promised file plants segments outcome) where
+  -- the answer to the file, with the caller's tables
   abbrev answer : Answer
   answer = answerTo file plants segments
 

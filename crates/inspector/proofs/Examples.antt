@@ -1,6 +1,5 @@
 -- 01's whole period, walked: the numbers that reading consumes of it, where they start, and which fields they are. And what is consumed of files
 -- that are refused.
-use Prim.Native.Nat.{ℕ}
 use mathlib.Core.Path.{_≡_, refl}
 use mathlib.Core.List.{[], _∷_, flatMap}
 use Rattle.number.specs.Groups.{gather, value, padded}

@@ -44,6 +44,7 @@ module _ (κ : Lft) (q : Share) (l : ℕ) where
   abbrev pub Kept : ℕ → GName → Fml
   Kept ν γ = fsep (flent (ν ∷ κ) (Body (mem (Reader κ)) l 0 γ)) (fwand (flft (ν ∷ []) (PosShare·left q)) (flft (ν ∷ []) fullShare))
 
+  -- All that there is while it is lent: the tokens, the reference, and what is kept.
   abbrev pub Lent : Inspector → ℕ → GName → Fml
   Lent reader ν γ = fsep (Tokens ν) (fsep (MutRef (named 0) (ν ∷ κ) (Reader κ) .own (to l γ reader) (vptr l 0 ∷ [])) (Kept ν γ))
 

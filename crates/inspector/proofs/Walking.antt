@@ -57,6 +57,7 @@ value-from file k (suc i) is (step answer more) h =
     let next : k + suc i ≡ suc k + i = omega arith in
     rw next (value-from file (suc k) i (ap stepped is ∙ steps-on file k (rw is at answer)) more (omega (arith, h)))
 
+-- so they are from the start on
 pub walked-value :
     {file : RefT (List ℕ)} {values : List ℕ} {last : Inspector} → Walks (begun file) values last → (k : ℕ) → k < length values →
     valueAt (now file) k ≡ getD values k 0
@@ -82,6 +83,7 @@ one-from (step {value} answer more) stop (step {value = value'} answer' more') s
     let same : value ≡ value' = cc in
     (rw (same, others), end)
 
+-- so it is from the start on
 pub one-walk :
     {file : RefT (List ℕ)} {values values' : List ℕ} {refusal refusal' at at' : ℕ} → Stops file values refusal at → Stops file values' refusal' at' →
     (values ≡ values') × (refusal ≡ refusal') × (at ≡ at')

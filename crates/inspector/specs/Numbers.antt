@@ -28,6 +28,7 @@ unfoldable pub ofEach : {A : Type 0} → (A → List ℕ) → List A → List �
 ofEach numbers [] = []
 ofEach numbers (one ∷ rest) = numbers one ++ ofEach numbers rest
 
+-- Those of the whole period.
 unfoldable pub numbersOf : Period → List ℕ
 numbersOf period =
     headerNumbersOf period

@@ -18,6 +18,7 @@ pub use crate::step::step_at;
 use number::Number;
 use number::read_at;
 
+// A reader of the file.
 pub struct Inspector<'a> {
     // The lent file.
     pub file: &'a [u8],

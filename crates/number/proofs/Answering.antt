@@ -2,7 +2,7 @@
 use Prim.Native.Nat.{ℕ, _+_, _≤_}
 use mathlib.Core.Path.{_≡_, refl, sym, ap, ap₂, _∙_}
 use mathlib.Core.List.{List}
-use mathlib.Core.Bool.{false}
+use mathlib.Core.Bool.{false, true≢false}
 use native.Mathlib.Omega.{arith}
 use lib.ListN.{length, drop}
 use borrow.Author.Tests.{le-leb}
@@ -10,7 +10,6 @@ use Rattle.number.specs.Groups.{Gathering, gather, padded, value, mostGr
 use Rattle.number.specs.Groups.Gathering.{whole, cut, long}
 use Rattle.number.specs.Reading.{Answer, from, formed, answer, reading, readAt, ends, notShortest, tooLarge}
 use Rattle.number.specs.Reading.Answer.{number, fault}
-use Rattle.number.proofs.Gathering.{clash}
 use Rattle.number.proofs.Forming.{FormedAs, formed-as}
 use Rattle.number.proofs.Forming.FormedAs.{is-padded, is-large, is-number}
 use Rattle.number.proofs.Standing.{Stands, stands, gathers}
@@ -29,8 +28,9 @@ pub record Formed (groups : List ℕ) (v n : ℕ) : Type 0 where
 
 -- a fault is no number
 pub never : {v n k : ℕ} → fault k ≡ number v n → ⊥
-never e = clash (cc)
+never e = true≢false (cc)
 
+-- what groups that form a number say of it
 formed-inv : (groups : List ℕ) (v n : ℕ) (a : Answer) → FormedAs groups a → a ≡ number v n → Formed groups v n
 formed-inv groups v n a (is-padded p) e = absurd (never e)
 formed-inv groups v n a (is-large p h) e = absurd (never e)
@@ -38,11 +38,13 @@ formed-inv groups v n a (is-number p h) e =
     let value-is : value groups ≡ v = cc in
     record { shortest = p; value-is = value-is; size-is = cc; small = rw value-is at h }
 
+-- the groups of a number at the front of some bytes, and what they form
 pub record Reads (bytes : List ℕ) (v n : ℕ) : Type 0 where
   pub groups : List ℕ
   pub standing : Stands mostGroups bytes groups
   pub formed-so : Formed groups v n
 
+-- a number that was read there has them
 pub reads : (bytes : List ℕ) (v n : ℕ) → reading bytes ≡ number v n → Reads bytes v n
 unfolding reading
 reads bytes v n e = found (gather mostGroups bytes) refl e
@@ -74,11 +76,13 @@ formed-fault groups k a (is-padded p) e = let k-is : k ≡ notShortest = cc in o
 formed-fault groups k a (is-large p h) e = let k-is : k ≡ tooLarge = cc in omega arith
 formed-fault groups k a (is-number p h) e = absurd (never (sym e))
 
+-- so is that of what was gathered, whole or not
 pub answer-fault : (g : Gathering) (k : ℕ) → answer g ≡ fault k → (ends ≤ k) × (k ≤ tooLarge)
 answer-fault (whole groups) k e = let b = formed-fault groups k (formed groups) (formed-as groups) e in omega arith
 answer-fault cut k e = let k-is : k ≡ ends = cc in omega arith
 answer-fault long k e = let k-is : k ≡ tooLarge = cc in omega arith
 
+-- counted from a place, a fault is the same
 pub from-fault : (at : ℕ) (a : Answer) (k : ℕ) → from at a ≡ fault k → a ≡ fault k
 from-fault at (number v n) k e = absurd (never (sym e))
 from-fault at (fault j) k e = e

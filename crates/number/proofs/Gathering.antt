@@ -14,15 +14,13 @@ use Rattle.number.specs.Groups.{Gathering, before, gather, follows, grou
 use Rattle.number.specs.Groups.Gathering.{whole, cut, long}
 use Rattle.number.specs.Inside.{Came, Counted}
 
--- two constructors are never equal: `clash (cc)` is the case that cannot be
-pub clash : {A : Type 0} → _≡_ {A = ℕ} 0 1 → A
-clash z = absurd (omega arith)
-
 -- ---- one group
+-- a byte that says another follows: its group, before the rest
 pub gather-more : (k b : ℕ) (s : List ℕ) → radix ≤ b → gather (suc k) (b ∷ s) ≡ before (b % radix) (gather k s)
 unfolding gather
 gather-more k b s h = rw (le-leb radix b h)
 
+-- a byte that says none follows: its group alone
 pub gather-last : (k b : ℕ) (s : List ℕ) → b < radix → gather (suc k) (b ∷ s) ≡ whole (b % radix ∷ [])
 unfolding gather
 gather-last k b s h = rw (lt-leb radix b h)
@@ -60,12 +58,14 @@ unfoldable pub prepend : List ℕ → Gathering → Gathering
 prepend [] r = r
 prepend (g ∷ gs) r = before g (prepend gs r)
 
-pub prepend-one : (gs : List ℕ) (g : ℕ) (r : Gathering) → prepend (gs ++ g ∷ []) r ≡ prepend gs (before g r)
+-- one group more, before what is still to come
+prepend-one : (gs : List ℕ) (g : ℕ) (r : Gathering) → prepend (gs ++ g ∷ []) r ≡ prepend gs (before g r)
 unfolding prepend
 prepend-one [] g r = refl
 prepend-one (h ∷ gs) g r = ap (before h) (prepend-one gs g r)
 
-pub prepend-whole : (gs hs : List ℕ) → prepend gs (whole hs) ≡ whole (gs ++ hs)
+-- before a whole number they are its first groups
+prepend-whole : (gs hs : List ℕ) → prepend gs (whole hs) ≡ whole (gs ++ hs)
 unfolding prepend
 prepend-whole [] hs = refl
 prepend-whole (g ∷ gs) hs = ap (before g) (prepend-whole gs hs)
@@ -81,14 +81,17 @@ pub record Gathers (bytes groups : List ℕ) (n : ℕ) : Type 0 where
   pub came : Came n groups
   pub whole-is : gather mostGroups bytes ≡ prepend (take n groups) (gather (mostGroups - n) (drop n bytes))
 
+-- before the first turn none has come
 pub start : (bytes groups : List ℕ) → groups ≡ replicate mostGroups 0 → Gathers bytes groups 0
 unfolding prepend
 start bytes groups e = record { came = record { within = omega arith; room = ap length e; zeros = e }; whole-is = refl }
 
 module _ (bytes groups : List ℕ) (n : ℕ) (g : Gathers bytes groups n) (below : n < mostGroups) where
+  -- at least one group more may come
   left : mostGroups - n ≡ suc (mostGroups - suc n)
   left = omega arith
 
+  -- no byte is left: the bytes end first
   pub cut-is : length bytes ≤ n → gather mostGroups bytes ≡ cut
   unfolding gather
   cut-is h =
@@ -96,12 +99,15 @@ module _ (bytes groups : List ℕ) (n : ℕ) (g : Gathers bytes groups n) (below
       ∙ rw (left, drop-of-length-le bytes h) (prepend-end cut (λ g. refl) (take n groups))
 
   module _ (more-bytes : n < length bytes) where
+    -- the array has a place for the next group
     here : n < length groups
     here = rw (g .came .room) below
 
+    -- the next byte
     abbrev pub byte : ℕ
     byte = getD bytes n 0
 
+    -- behind that place the array is zero
     behind : drop (suc n) groups ≡ replicate (mostGroups - suc n) 0
     behind =
         let front : getD groups n 0 ∷ drop (suc n) groups ≡ 0 ∷ replicate (mostGroups - suc n) 0 =
@@ -117,9 +123,11 @@ module _ (bytes groups : List ℕ) (n : ℕ) (g : Gathers bytes groups n) (below
           zeros = drop-set-lt (suc n) groups n x (omega arith) ∙ behind;
         }
 
+    -- and it is the last that came
     pub stored-counted : (x : ℕ) → Counted (suc n) x (set groups n x)
     stored-counted x = record { came = stored-came x; at-last = rw (sub-one (suc n)) (getD-set-same groups n x 0 here) }
 
+    -- the byte says that none follows: the number is whole
     pub last-is : (x : ℕ) → x ≡ byte % radix → byte < radix → gather mostGroups bytes ≡ whole (take (suc n) (set groups n x))
     last-is x e h =
         g .whole-is
@@ -150,6 +158,7 @@ module _ (bytes groups : List ℕ) (n : ℕ) (g : Gathers bytes groups n) (below
               (sym (prepend-one (take n groups) x (gather (mostGroups - suc n) (drop (suc n) bytes))));
         }
 
+-- all groups that a number may have came, and say that another follows
 pub more-is : (bytes groups : List ℕ) (n : ℕ) → Gathers bytes groups n → mostGroups ≤ n → gather mostGroups bytes ≡ long
 unfolding gather
 more-is bytes groups n g h =

@@ -34,6 +34,7 @@ pub record Size (bytes : List ℕ) (v n : ℕ) : Type 0 where
   pub inside : n ≤ length bytes
   pub small : v ≤ largest
 
+-- so it is with every number at the front of some bytes
 pub size : (bytes : List ℕ) (v n : ℕ) → reading bytes ≡ number v n → Size bytes v n
 size bytes v n e =
     let r = reads bytes v n e in
@@ -45,12 +46,14 @@ size bytes v n e =
       small = r .formed-so .small;
     }
 
+-- the same of a number at a place, counted from the start of the file
 pub record Bounds (file : List ℕ) (at v n : ℕ) : Type 0 where
   pub later : at < n
   pub near : n ≤ at + mostGroups
   pub inside : n ≤ length file
   pub small : v ≤ largest
 
+-- so it is with every number at a place
 pub bounds : (file : List ℕ) (at v n : ℕ) → readAt file at ≡ number v n → Bounds file at v n
 bounds file at v n e =
     let (m, q, next-is) = at-front file at v n e in
@@ -67,10 +70,12 @@ pub faults : (file : List ℕ) (at k : ℕ) → readAt file at ≡ fault k → (
 faults file at k e = front-faults (drop at file) k (from-fault at (reading (drop at file)) k (sym (at-place file at) ∙ e))
 
 -- ---- what comes before the number does not matter
+-- counted from one place, and that from another
 pub from-from : (m n : ℕ) (a : Answer) → from m (from n a) ≡ from (m + n) a
 from-from m n (number v k) = ap (number v) (sym (add-assoc m n k))
 from-from m n (fault k) = refl
 
+-- so behind other bytes stands the same, that much further on
 pub what-precedes : (p file : List ℕ) (at : ℕ) → readAt (p ++ file) (length p + at) ≡ from (length p) (readAt file at)
 unfolding readAt
 what-precedes p file at =

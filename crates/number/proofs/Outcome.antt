@@ -15,6 +15,7 @@ unsaid : Answer → Number
 unsaid (number v n) = Value v n
 unsaid (fault k) = cond (eqb k ends) Ends (cond (eqb k notShortest) NotShortest TooLarge)
 
+-- for what an answer says, it is that answer
 unsaid-said : (r : Number) → unsaid (said r) ≡ r
 unfolding unsaid
 unsaid-said (Value v n) = refl
@@ -22,6 +23,7 @@ unsaid-said Ends = refl
 unsaid-said NotShortest = refl
 unsaid-said TooLarge = refl
 
+-- so two answers that say the same are the same
 pub said-once : (r s : Number) → said r ≡ said s → r ≡ s
 said-once r s e = sym (unsaid-said r) ∙ ap unsaid e ∙ unsaid-said s
 

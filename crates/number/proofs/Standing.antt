@@ -3,6 +3,7 @@ use Prim.Native.Nat.{ℕ, zero, suc, _+_, _%_, _≤_, _<_}
 use mathlib.Core.Path.{_≡_, refl, sym, ap, _∙_}
 use mathlib.Core.List.{List, [], _∷_, _++_}
 use mathlib.Core.Logic.{⊎-elim}
+use mathlib.Core.Bool.{true≢false}
 use native.Mathlib.Nat.{mod-lt}
 use native.Mathlib.Omega.{arith}
 use lib.ListN.{length, take}
@@ -11,13 +12,14 @@ use Rattle.number.specs.Groups.{Gathering, before, gather, radix}
 use Rattle.number.specs.Inside.{AreGroups}
 use Rattle.number.specs.Groups.Gathering.{whole, cut, long}
 use Rattle.number.specs.Inside.AreGroups.{none, more}
-use Rattle.number.proofs.Gathering.{clash, gather-more, gather-last, last-or-more}
+use Rattle.number.proofs.Gathering.{gather-more, gather-last, last-or-more}
 
 -- `Stands k s gs`: a number of at most k groups stands at the front of s, and gs are its groups
 pub data Stands : ℕ → List ℕ → List ℕ → Type 0 where
   last-group : {k b : ℕ} {s : List ℕ} → b < radix → Stands (suc k) (b ∷ s) (b % radix ∷ [])
   group-before : {k b : ℕ} {s gs : List ℕ} → radix ≤ b → Stands k s gs → Stands (suc k) (b ∷ s) (b % radix ∷ gs)
 
+-- what stands there is gathered
 pub gathers : {k : ℕ} {s gs : List ℕ} → Stands k s gs → gather k s ≡ whole gs
 gathers (last-group {k} {b} {s} h) = gather-last k b s h
 gathers (group-before {k} {b} {s} h r) = gather-more k b s h ∙ ap (before (b % radix)) (gathers r)
@@ -25,13 +27,14 @@ gathers (group-before {k} {b} {s} h r) = gather-more k b s h ∙ ap (before (b %
 -- a group before what was gathered is whole only before a whole
 before-whole : (g : ℕ) (r : Gathering) (gs : List ℕ) → before g r ≡ whole gs → (hs : List ℕ) × (r ≡ whole hs) × (gs ≡ g ∷ hs)
 before-whole g (whole hs) gs e = (hs, refl, cc)
-before-whole g cut gs e = clash (cc)
-before-whole g long gs e = clash (cc)
+before-whole g cut gs e = absurd (true≢false (cc))
+before-whole g long gs e = absurd (true≢false (cc))
 
+-- and what is gathered as a whole number stands there
 pub stands : (k : ℕ) (s gs : List ℕ) → gather k s ≡ whole gs → Stands k s gs
 unfolding gather
-stands zero s gs e = clash (cc)
-stands (suc k) [] gs e = clash (cc)
+stands zero s gs e = absurd (true≢false (cc))
+stands (suc k) [] gs e = absurd (true≢false (cc))
 stands (suc k) (b ∷ s) gs e =
     ⊎-elim
     (λ h. let q : gs ≡ b % radix ∷ [] = cc (gather-last k b s h) in rw q (last-group h))

@@ -23,6 +23,7 @@ unfolding value
 value-lt none = lit< tt
 value-lt (more {gs = gs} h r) = rw (group-more (length gs)) (digits-lt (value-lt r) h)
 
+-- so the most groups bound every value
 pub bounded : {gs : List ℕ} → AreGroups gs → length gs ≤ mostGroups → value gs < 2 ^ (groupBits * mostGroups)
 bounded r h = lt-of-lt-of-le (value-lt r) (pow-mono {j = groupBits * mostGroups} (omega arith))
 
@@ -38,6 +39,7 @@ value-zeros [] zero = refl
 value-zeros [] (suc k) = rw (value-zeros [] k)
 value-zeros (g ∷ gs) k = rw (value-zeros gs k)
 
+-- and are groups themselves
 pub groups-zeros : {gs : List ℕ} (k : ℕ) → AreGroups gs → AreGroups (gs ++ replicate k 0)
 groups-zeros zero none = none
 groups-zeros (suc k) none = more (lit< tt) (groups-zeros k none)
@@ -55,6 +57,7 @@ pub record Forms (groups : List ℕ) (v w i : ℕ) : Type 0 where
   pub value-is : value groups ≡ v + value (drop i groups) * w
   pub weight-is : w ≡ 2 ^ (groupBits * i)
 
+-- before the first group nothing is formed
 pub start : (groups : List ℕ) → Forms groups 0 1 0
 start groups = record { value-is = omega arith; weight-is = refl }
 
@@ -86,6 +89,7 @@ module _ (groups : List ℕ) (v w i : ℕ) (f : Forms groups v w i) where
         let weighed : rest * radix * w ≡ rest * (w * radix) = mul-right-comm rest radix w ∙ mul-assoc rest w radix in
         omega (arith, f .value-is, here, weighed)
 
+    -- and the next group has the next weight
     pub next : Forms groups (v + getD groups i 0 * w) (w * radix) (suc i)
     next = record { value-is = turn; weight-is = ap (λ (k : ℕ). k * radix) (f .weight-is) ∙ sym (group-more i) }
 

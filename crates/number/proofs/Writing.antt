@@ -23,10 +23,12 @@ use Rattle.number.proofs.Answering.{Reads, reads, standing-reads, at-fr
 use Rattle.number.proofs.Laws.{bounds}
 
 -- ---- one group
+-- a number below the radix is one group
 writing-last : (k v : ℕ) → v < radix → writing (suc k) v ≡ v ∷ []
 unfolding writing
 writing-last k v h = rw (lt-ltb v radix h)
 
+-- a larger one is a group that says another follows, and the rest
 writing-more : (k v : ℕ) → radix ≤ v → writing (suc k) v ≡ (radix + group v) ∷ writing k (v / radix)
 unfolding writing
 writing-more k v h = rw (le-ltb v radix h)
@@ -74,6 +76,7 @@ more-allowed : (k v : ℕ) → radix ≤ v → v < 2 ^ (groupBits * suc k) → 0
 more-allowed zero v h b = absurd (omega arith)
 more-allowed (suc k) v h b = omega arith
 
+-- so it is with every number that so many groups can hold
 stands-written : (k v : ℕ) (t : List ℕ) → 0 < k → v < 2 ^ (groupBits * k) → Written k v t
 stands-written zero v t h b = absurd (omega arith)
 stands-written (suc k) v t h b = by-size (decLt v radix) (stands-written k (v / radix) t)
@@ -104,6 +107,7 @@ reads-back-at p v t h =
     ∙ ap (from (length p)) (reads-back v t h)
 
 -- ---- what stands there is what is written
+-- groups that do not end in a zero group have a value
 positive : (gs : List ℕ) → (last gs ≡ 0 → ⊥) → 0 < value gs
 unfolding value
 positive [] h = absurd (h refl)
@@ -112,6 +116,7 @@ positive (g ∷ (k ∷ gs)) h =
     let rest = positive (k ∷ gs) (λ e. h (last-behind g (k ∷ gs) (omega arith) ∙ e)) in
     omega arith
 
+-- bytes whose groups have the shortest form are what is written for their value
 form-is : {k : ℕ} {s gs : List ℕ} → Stands k s gs → AreBytes s → (length gs ≤ 1) ⊎ (last gs ≡ 0 → ⊥) → take (length gs) s ≡ writing k (value gs)
 unfolding value
 form-is (last-group {k} {b} h) bytes form =
@@ -135,6 +140,7 @@ shortest-form gs p = by-length (decLe (length gs) 1)
     by-length (yes one) = inl one
     by-length (no several) = inr (λ e. true≢false (sym (padded-zero gs (omega arith) e) ∙ p))
 
+-- so are the bytes of a number at the front of others
 front-form : (bytes : List ℕ) (v m : ℕ) → Reads bytes v m → AreBytes bytes → take m bytes ≡ written v
 unfolding written
 front-form bytes v m r all =

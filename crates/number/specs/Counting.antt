@@ -22,5 +22,6 @@ abbrev pub valueIn : Answer → ℕ
 valueIn (number value next) = value
 valueIn (fault refusal) = 0
 
+-- That of number k.
 unfoldable pub valueAt : List ℕ → ℕ → ℕ
 valueAt file k = valueIn (numberAt file k)

@@ -1,5 +1,5 @@
 -- A period settled, for the plants and segments at the front of two arrays: what its steps ask, and what they come to.
-use Prim.Native.Nat.{ℕ, zero, suc, _+_, _*_, _^_, _≤_, _<_}
+use Prim.Native.Nat.{ℕ, suc, _+_, _*_, _^_, _≤_, _<_}
 use mathlib.Core.Path.{_≡_, refl, sym, ap, subst, subst⁻¹, _∙_}
 use mathlib.Core.Bool.{Bool, true, false}
 use mathlib.Core.List.{List, [], _∷_, _++_, append-nil, map}
@@ -7,7 +7,7 @@ use mathlib.Core.Logic.{inl, inr, ⊎-elim}
 use native.Mathlib.Nat.{le-trans}
 use native.Mathlib.Omega.{arith}
 use lib.Dec.{ltb}
-use lib.ListN.{length, List·getD-eq-default, take, drop, drop-of-length-le, getD, set, length-replicate, replicate}
+use lib.ListN.{length, List·getD-eq-default, take, drop, drop-of-length-le, getD, set, length-replicate}
 use lib.Seq.{length-take-le, getD-take}
 use borrow.Author.Tests.{ltb-true, ltb-false}
 use Rattle.number.specs.Groups.{largest}
@@ -20,7 +20,7 @@ use Rattle.records.specs.Periods.{Period}
 use Rattle.records.specs.Within.{Each, PlantWithin, SegmentWithin}
 use Rattle.records.specs.Answers.{Verdict, accepts, refuses}
 use Rattle.records.proofs.Within.{each-on}
-use Rattle.accounts.specs.Walk.{starting, sum, credits, turns, arrived}
+use Rattle.accounts.specs.Walk.{atFirst, sum, credits, turns, arrived}
 use Rattle.accounts.specs.Accounts.{account}
 use Rattle.accounts.specs.Rows.{plantRows, segmentRows}
 use Rattle.accounts.specs.Order.{Answer, refusal, accepted, Test, tested, segmentTests, plantNumbers, segmentNumbers, tableTests}
@@ -28,22 +28,16 @@ use Rattle.accounts.specs.Quantified.{accountsOf, rows}
 use Rattle.accounts.proofs.Credits.{sum-most}
 use Rattle.period.specs.Inside.{Passes, Refuses, Small, KgOf, column, accountBy, Started, Moved, PlantsWritable, SegmentsWritable, plantRowsBy, segmentRowsBy, Settled, Finished, periodOf, settled}
 use Rattle.period.proofs.Books.{segment-rows, segment-rows-long, plant-rows, plant-rows-long, stored-most, chargeable}
+use Rattle.period.proofs.Cells.{zeros, no-amount}
 use Rattle.period.proofs.Columns.{column-at, column-length}
 use Rattle.period.proofs.Steps.{brings-most}
-use Rattle.period.proofs.Turning.{after, after-length, at, AtTurn, at-start, refused, on-turn, plant-within, segment-within}
+use Rattle.period.proofs.Turning.{after, after-length, at, AtTurn, no-more, at-start, refused, on-turn, plant-within, segment-within}
 
+-- a refusal leaves both tables as they were
 finished-refused :
     (answer : Answer) (number place : ℕ) → answer ≡ refusal number place →
     (plantTable segmentTable : List ℕ) → Finished answer (refuses number place) plantTable plantTable segmentTable segmentTable
 finished-refused answer number place e plantTable segmentTable = rw e (refl, refl, refl)
-
-abbrev none : ℕ
-none = 0
-
-zeros : (n i : ℕ) → getD (replicate n none) i none ≡ none
-zeros zero i = refl
-zeros (suc n) zero = refl
-zeros (suc n) (suc i) = zeros n i
 
 -- what is known of the period: there are so many plants and segments in the arrays, each is within its limits, and no owner emits more than the largest
 pub record Given (plantArray : List Plant) (plantCount : ℕ) (segmentArray : List Segment) (segmentCount : ℕ) (kg : List ℕ) : Type 0 where
@@ -56,24 +50,28 @@ pub record Given (plantArray : List Plant) (plantCount : ℕ) (segmentArray : Li
   pub small : Small kg
 
 module _ {plantArray : List Plant} {plantCount : ℕ} {segmentArray : List Segment} {segmentCount : ℕ} {kg : List ℕ} (given : Given plantArray plantCount segmentArray segmentCount kg) where
+  -- the plants and the segments of the period
   abbrev plants : List Plant
   plants = take plantCount plantArray
 
   abbrev segments : List Segment
   segments = take segmentCount segmentArray
 
+  -- there are so many of them
   plants-long : length plants ≡ plantCount
   plants-long = length-take-le plantCount plantArray (given .plants-there)
 
   segments-long : length segments ≡ segmentCount
   segments-long = length-take-le segmentCount segmentArray (given .segments-there)
 
+  -- no more than there may be
   plants-few : length plants ≤ mostPlants
   plants-few = rw plants-long (given .few-plants)
 
   segments-few : length segments ≤ mostSegments
   segments-few = rw segments-long (given .few-segments)
 
+  -- and each is within its limits
   each-plant : Each (PlantWithin (length segments)) 1 plants
   each-plant = rw segments-long (given .plants-within)
 
@@ -87,6 +85,7 @@ module _ {plantArray : List Plant} {plantCount : ℕ} {segmentArray : List Segme
   segment-front : (s : ℕ) → s < length segments → getD segmentArray s noSegment ≡ getD segments s noSegment
   segment-front s here = sym (getD-take segmentCount segmentArray s noSegment (rw segments-long at here))
 
+  -- one of the first so many is one of them
   short-plant : (p : ℕ) → p < plantCount → p < length plants
   short-plant p short = rw plants-long short
 
@@ -104,21 +103,24 @@ module _ {plantArray : List Plant} {plantCount : ℕ} {segmentArray : List Segme
   abbrev pub Turned : ℕ → List (List ℕ) → (sets inflows stored : List ℕ) → Type 0
   Turned = AtTurn plants segments kg
 
+  -- before the first segment all plants are at their start
   pub turned-start :
       (table : List (List ℕ)) (sets : List ℕ) → Started plants table sets →
-      Turned 0 table sets (replicate mostSegments 0) (replicate mostPlants 0)
+      Turned 0 table sets (zeros mostSegments) (zeros mostPlants)
   turned-start table sets started =
       at-start plants segments plants-few segments-few each-plant each-segment
-      kg table sets (replicate mostSegments 0) (replicate mostPlants 0) started (length-replicate mostSegments none) (length-replicate mostPlants none) (zeros mostPlants)
+      kg table sets (zeros mostSegments) (zeros mostPlants) started (length-replicate {A = ℕ} mostSegments 0) (length-replicate {A = ℕ} mostPlants 0) (no-amount mostPlants)
 
   module _ (s : ℕ) (table : List (List ℕ)) (sets inflows stored : List ℕ) (turned : Turned s table sets inflows stored) where
     module _ (more : s < segmentCount) where
+      -- the segment whose turn it is
       here : s < length segments
       here = short-segment s more
 
       abbrev segment : Segment
       segment = getD segmentArray s noSegment
 
+      -- its next segment has its place in the tables
       pub within : SegmentWithin mostSegments (suc s) segment
       within =
           let one = segment-within plants segments plants-few segments-few each-plant each-segment s here in
@@ -127,7 +129,7 @@ module _ {plantArray : List Plant} {plantCount : ℕ} {segmentArray : List Segme
             next = ⊎-elim (λ none. inl none) (λ some. inr (some .0, le-trans (some .1) segments-few)) (one .next);
           })
 
-      -- no sum of amounts passes the numbers of the machine
+      -- no amount that enters is over the largest number
       amount-most : (p : ℕ) → getD (column plantCount s table) p 0 ≤ largest
       amount-most p = by-test (ltb p (length (column plantCount s table))) refl
         where
@@ -138,7 +140,7 @@ module _ {plantArray : List Plant} {plantCount : ℕ} {segmentArray : List Segme
           one short =
               let plant : p < length plants = rw plants-long (rw columned at short) in
               let brought = turned .amounts p s (rw (after-length plants segments s) plant) (omega arith) (omega arith) in
-              let most = le-trans (turned .no-more p plant) (plant-within plants segments plants-few segments-few each-plant each-segment p plant .exported) in
+              let most = le-trans (no-more plants segments turned p plant) (plant-within plants segments plants-few segments-few each-plant each-segment p plant .exported) in
               rw (column-at plantCount s table p (rw columned at short), brought) (le-trans (brings-most (suc s) (at plants segments s p)) most)
 
           by-test : (b : Bool) → ltb p (length (column plantCount s table)) ≡ b → getD (column plantCount s table) p 0 ≤ largest
@@ -146,6 +148,7 @@ module _ {plantArray : List Plant} {plantCount : ℕ} {segmentArray : List Segme
           by-test false e =
               rw (List·getD-eq-default (column plantCount s table) 0 (ltb-false p (length (column plantCount s table)) e)) (omega arith)
 
+      -- so their sum fits the numbers of the machine
       pub sum-fits : sum (column plantCount s table) < 2 ^ 64
       sum-fits =
           let most = sum-most largest (column plantCount s table) amount-most in
@@ -174,6 +177,7 @@ module _ {plantArray : List Plant} {plantCount : ℕ} {segmentArray : List Segme
           Moved count (getD sets s 0) (credits (one .outflow) (column count s table)) (one .next) table table' sets sets' stored stored' →
           Turned (suc s) table' sets' (set inflows s inflow) stored'
 
+      -- so the next turn can come
       pub turned-on : GoesOn plantCount segment
       turned-on =
           subst (λ (n : ℕ). GoesOn n segment) plants-long
@@ -182,6 +186,7 @@ module _ {plantArray : List Plant} {plantCount : ℕ} {segmentArray : List Segme
 
     -- ---- all segments are worked
     module _ (all : segmentCount ≤ s) where
+      -- the turn that comes is the one behind the last
       done : s ≡ length segments
       done = let most = turned .worked in omega (arith, most, all, segments-long)
 
@@ -189,9 +194,11 @@ module _ {plantArray : List Plant} {plantCount : ℕ} {segmentArray : List Segme
       worked = rw done at turned
 
       module _ (lines : List Line) (is : KgOf kg lines) where
+        -- the period, with lines by which the owners emit so many kg
         abbrev period : Period
         period = periodOf plants segments lines
 
+        -- and its rows
         abbrev result : Answer
         result = rows period (accountsOf period)
 
@@ -210,22 +217,24 @@ module _ {plantArray : List Plant} {plantCount : ℕ} {segmentArray : List Segme
         -- the rows by the tables are those of the definitions
         plants-are :
             plantRowsBy plantArray table stored segmentCount inflows kg plantCount
-            ≡ plantRows lines (map (account lines) (turns 1 segments (map starting plants))) 0 plants (arrived 1 segments (map starting plants))
+            ≡ plantRows lines (map (account lines) (turns 1 segments (map atFirst plants))) 0 plants (arrived 1 segments (map atFirst plants))
         plants-are =
             ap (λ (n : ℕ). plantRowsBy plantArray table stored n inflows kg plantCount) (sym segments-long)
             ∙ ap (λ (n : ℕ). plantRowsBy plantArray table stored (length segments) inflows kg n) (sym plants-long)
-            ∙ plant-rows plants segments kg table sets inflows stored worked lines is plants-few segments-few plantArray plant-front
+            ∙ plant-rows plants segments kg table sets inflows stored worked lines is plants-few segments-few each-plant each-segment plantArray plant-front
 
-        segments-are : segmentRowsBy segmentArray sets inflows kg segmentCount ≡ segmentRows (map (account lines) (turns 1 segments (map starting plants)))
+        segments-are : segmentRowsBy segmentArray sets inflows kg segmentCount ≡ segmentRows (map (account lines) (turns 1 segments (map atFirst plants)))
         segments-are =
             ap (λ (n : ℕ). segmentRowsBy segmentArray sets inflows kg n) (sym segments-long)
-            ∙ segment-rows plants segments kg table sets inflows stored worked lines is plants-few segments-few segmentArray segment-front
+            ∙ segment-rows plants segments kg table sets inflows stored worked lines is plants-few segments-few each-plant each-segment segmentArray segment-front
 
+        -- so the answer is these rows
         rows-are :
             result ≡ accepted (plantRowsBy plantArray table stored segmentCount inflows kg plantCount) (segmentRowsBy segmentArray sets inflows kg segmentCount)
         unfolding rows accountsOf
         rows-are = rw (plants-are, segments-are) refl
 
+      -- a table is too short
       pub tables-refused :
           (verdict : Verdict) (plantTable segmentTable : List ℕ) → (verdict ≡ accepts → ⊥) →
           Passes verdict (tableTests plantCount segmentCount (length plantTable) (length segmentTable)) →
@@ -249,10 +258,11 @@ module _ {plantArray : List Plant} {plantCount : ℕ} {segmentArray : List Segme
             rw (plant-front p plant) (plant-within plants segments plants-few segments-few each-plant each-segment p plant .exported);
         fraction = λ p short. let plant = short-plant p short in
             rw (plant-front p plant) (plant-within plants segments plants-few segments-few each-plant each-segment p plant .fraction);
-        kept = λ p short. let plant = short-plant p short in rw (plant-front p plant) (stored-most plants segments kg table sets inflows stored worked p plant);
+        kept = λ p short. let plant = short-plant p short in rw (plant-front p plant) (stored-most plants segments kg table sets inflows stored worked p plant each-plant each-segment);
         chargeable = λ p short j more. chargeable plants segments kg table sets inflows stored worked p (short-plant p short) (given .small) j (short-segment j more);
       }
 
+      -- and so can those of the segments
       pub segments-writable :
           (room : ℕ) → segmentNumbers * segmentCount ≤ room → SegmentsWritable segmentArray sets inflows kg segmentCount room
       segments-writable room enough = record {
@@ -261,6 +271,7 @@ module _ {plantArray : List Plant} {plantCount : ℕ} {segmentArray : List Segme
         outflow = λ j short. let one = short-segment j short in rw (segment-front j one) (worked .past j one .out);
       }
 
+      -- both tables have room, and hold the rows
       pub accepted-rows :
           (plantTable plantTable' segmentTable segmentTable' : List ℕ) →
           Passes accepts (tableTests plantCount segmentCount (length plantTable) (length segmentTable)) →

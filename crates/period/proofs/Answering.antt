@@ -29,10 +29,12 @@ use Rattle.period.specs.Inside.{Passes, Small, AddedUp, Finished, settle
 use Rattle.period.proofs.Refusing.{accepted-told}
 
 -- ---- a refusal writes nothing
+-- it says that nothing was written
 nothing-written : (told : Told) (answer : Answer) → (said told ≡ accepts → ⊥) → said told ≡ verdictOf answer → Answers (nothing told) answer
 nothing-written told (refusal number place) not verdict = record { verdict = verdict; plants = refl; segments = refl }
 nothing-written told (accepted plants segments) not verdict = absurd (not verdict)
 
+-- which keeps the promise of the call
 refused-promised :
     (file : List ℕ) (told : Told) (plants plants' segments segments' : List ℕ) → (said told ≡ accepts → ⊥) →
     Finished (quantified file (length plants) (length segments)) (said told) plants plants' segments segments' →
@@ -50,6 +52,7 @@ accepted-tested tests answer =
     accepted-told (tested tests answer) (tested tests answer ≡ answer)
     (λ plants segments is. none-answers answer (none-fails tests answer plants segments is))
 
+-- it says how many numbers the rows have
 rows-written :
     (period : Period) (told : Told) (plantTable segmentTable : ℕ) → said told ≡ accepts →
     said told ≡ verdictOf (settled period plantTable segmentTable) →
@@ -93,9 +96,11 @@ module _ (file : List ℕ) (r : Reading) (held : Held r (periodFile file)) where
 
   -- read to its end
   module _ (accepting : said (r .answer) ≡ accepts) where
+    -- its period
     abbrev period : Period
     period = recordsOf (periodFile file)
 
+    -- the tests after reading are left
     read-whole : (plantTable segmentTable : ℕ) → quantified file plantTable segmentTable ≡ judged period (accountsOf period) plantTable segmentTable
     unfolding quantified
     read-whole plantTable segmentTable = by-outcome (periodFile file) (sym accepting ∙ held .answer)
@@ -106,6 +111,7 @@ module _ (file : List ℕ) (r : Reading) (held : Held r (periodFile file)) where
         by-outcome (read period place rest) e = refl
         by-outcome (refused number place) e = absurd (refuses-not-accepts (sym e))
 
+    -- the period is within its limits
     within : Within period
     within = by-outcome (periodFile file) refl (sym accepting ∙ held .answer)
       where
@@ -113,6 +119,7 @@ module _ (file : List ℕ) (r : Reading) (held : Held r (periodFile file)) where
         by-outcome (read period place rest) is e = read-within file period place rest is
         by-outcome (refused number place) is e = absurd (refuses-not-accepts (sym e))
 
+    -- its records stand at the front of the arrays
     plants-front : take (r .«plant_count») (r .plants) ≡ period .plants
     plants-front = front-is noPlant mostPlants (r .«plant_count») (period .plants) (r .plants) (held .plant-count) (held .plants)
 
@@ -140,6 +147,7 @@ module _ (file : List ℕ) (r : Reading) (held : Held r (periodFile file)) where
       of-lines : AddedUp emitted (period .lines)
       of-lines = rw lines-front at added
 
+      -- a line's owner passes the limit
       pub lines-refused :
           (plantTable segmentTable : List ℕ) → (said (emitted .answer) ≡ accepts → ⊥) →
           Promised file plantTable segmentTable (nothing (emitted .answer)) plantTable segmentTable
@@ -159,6 +167,7 @@ module _ (file : List ℕ) (r : Reading) (held : Held r (periodFile file)) where
 
       -- ---- the segments and the tables
       module _ (passing : said (emitted .answer) ≡ accepts) where
+        -- the tests of the segments and the tables are left
         lines-pass : (plantTable segmentTable : ℕ) → quantified file plantTable segmentTable ≡ settled period plantTable segmentTable
         unfolding judged
         lines-pass plantTable segmentTable =
@@ -167,6 +176,7 @@ module _ (file : List ℕ) (r : Reading) (held : Held r (periodFile file)) where
             (segmentTests (accountsOf period) ++ tableTests (length (period .plants)) (length (period .segments)) plantTable segmentTable)
             (rows period (accountsOf period))
 
+        -- what settling asks of the records and the kg
         pub settle-fits :
             (r .«plant_count» ≤ mostPlants)
             × ((r .«segment_count» ≤ mostSegments)
@@ -185,14 +195,17 @@ module _ (file : List ℕ) (r : Reading) (held : Held r (periodFile file)) where
             (settles :
             Settled (take (r .«plant_count») (r .plants)) (take (r .«segment_count») (r .segments)) (emitted .kg) (said told)
             plantTable plantTable' segmentTable segmentTable') where
+          -- it comes to the answer to the file
           finished : Finished (quantified file (length plantTable) (length segmentTable)) (said told) plantTable plantTable' segmentTable segmentTable'
           finished =
               rw (lines-pass (length plantTable) (length segmentTable))
               (rw (plants-front, segments-front) at (settles (period .lines) (of-lines .kg passing)))
 
+          -- it refuses
           pub settling-refused : (said told ≡ accepts → ⊥) → Promised file plantTable segmentTable (nothing told) plantTable' segmentTable'
           settling-refused not = refused-promised file told plantTable plantTable' segmentTable segmentTable' not finished
 
+          -- it accepts
           pub settling-accepted :
               said told ≡ accepts →
               Promised file plantTable segmentTable

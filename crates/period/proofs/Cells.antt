@@ -1,5 +1,5 @@
 -- The table of amounts and what else is filled plant by plant.
-use Prim.Native.Nat.{ℕ, _+_, _≤_, _<_}
+use Prim.Native.Nat.{ℕ, zero, suc, _+_, _≤_, _<_}
 use mathlib.Core.Path.{_≡_, refl, ap, _∙_}
 use mathlib.Core.Bool.{Bool, true, false, cond}
 use mathlib.Core.Logic.{_⊎_, inl, inr, _≢_}
@@ -7,12 +7,22 @@ use mathlib.Core.List.{List, []}
 use native.Mathlib.Nat.{not-suc-le-zero, eq-or-lt-of-le}
 use native.Mathlib.Omega.{arith}
 use lib.Dec.{eqb}
-use lib.ListN.{length, getD, set, length-set}
+use lib.ListN.{length, getD, set, replicate, length-set}
 use lib.Seq.{getD-set-same, getD-set-other}
 use borrow.Author.Tests.{eqb-true, eqb-false}
 use Rattle.records.specs.Plants.{mostPlants}
 use Rattle.records.specs.Segments.{mostSegments}
 use Rattle.period.specs.Inside.{Sized, cell}
+
+-- ---- an array before anything is filled into it
+abbrev pub zeros : ℕ → List ℕ
+zeros count = replicate count 0
+
+-- it has 0 at every index, and behind its last
+pub no-amount : (count i : ℕ) → getD (zeros count) i 0 ≡ 0
+no-amount zero i = refl
+no-amount (suc count) zero = refl
+no-amount (suc count) (suc i) = no-amount count i
 
 -- ---- what a loop over the plants fills: the plants below an index have what they should, the others what they had
 pub record UpTo (p : ℕ) (should had has : ℕ → ℕ) : Type 0 where

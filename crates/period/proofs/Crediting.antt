@@ -17,6 +17,7 @@ pub record Crediting (inflow outflow : ℕ) (entering written : List ℕ) (befor
   pub shared-is : shared ≡ before * outflow / inflow
   pub credited : take p written ++ creditsFrom inflow outflow before (drop p entering) ≡ credits outflow entering
 
+-- before the first plant nothing is shared
 pub crediting-start :
     (inflow outflow : ℕ) (entering written : List ℕ) → inflow ≡ sum entering → length entering ≤ length written →
     Crediting inflow outflow entering written 0 0 0

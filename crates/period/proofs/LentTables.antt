@@ -42,6 +42,7 @@ record Rows (file plants segments : List ℕ) : Type 0 where
   plant-rows : (index : ℕ) → index < length (held file .plants) → rowAt plantNumbers index plants ≡ rowAt plantNumbers index plant-numbers
   segment-rows : (index : ℕ) → index < length (held file .segments) → rowAt segmentNumbers index segments ≡ rowAt segmentNumbers index segment-numbers
 
+-- those that an accepting call left do
 rows-left : {file plants segments : List ℕ} → Left file plants segments → Rows file plants segments
 rows-left {file} {plants} {segments} left =
     by-answer
@@ -76,6 +77,7 @@ rows-left {file} {plants} {segments} left =
 
 -- ---- one call
 module _ {file plants segments : List ℕ} (left : Left file plants segments) where
+  -- how many plants and segments the file's period has
   abbrev P : ℕ
   P = length (held file .plants)
 

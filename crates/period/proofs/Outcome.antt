@@ -11,6 +11,7 @@ use Rattle.period.specs.Written.{Promised}
 abbrev made : Told → ℕ → ℕ → Quantified
 made answer plantNumbers segmentNumbers = record { answer = answer; «plant_numbers» = plantNumbers; «segment_numbers» = segmentNumbers }
 
+-- `quantify`: two outcomes that meet its promise, of one file and the same tables, are the same
 pub one-outcome :
     (file plants segments : List ℕ) (r s : Quantified) (plants₁ plants₂ segments₁ segments₂ : List ℕ) →
     Promised file plants segments r plants₁ segments₁ → Promised file plants segments s plants₂ segments₂ →

@@ -15,10 +15,12 @@ use Rattle.period.specs.declared.call.Quantified.{Quantified}
 use Rattle.period.specs.Written.{verdictOf, plantsAfter, segmentsAfter, Promised}
 
 -- ---- a verdict tells the answer
+-- a refusal
 refusal-told : (answer : Answer) (number place : ℕ) → verdictOf answer ≡ refuses number place → answer ≡ refusal number place
 refusal-told (refusal number' place') number place e = cc
 refusal-told (accepted plants segments) number place e = absurd (refuses-not-accepts (sym e))
 
+-- an acceptance, with some rows
 pub accepted-told :
     (answer : Answer) (Claim : Type 0) → ((plants segments : List ℕ) → answer ≡ accepted plants segments → Claim) →
     verdictOf answer ≡ accepts → Claim
@@ -27,6 +29,7 @@ accepted-told (accepted plants segments) Claim then e = then plants segments ref
 
 -- ---- the call, lent two tables
 module _ {file plants segments : List ℕ} {r : Quantified} {plants' segments' : List ℕ} (promised : Promised file plants segments r plants' segments') where
+  -- the answer of the definitions, and 01's tests
   abbrev answer : Answer
   answer = quantified file (length plants) (length segments)
 

@@ -17,38 +17,33 @@ use Rattle.records.specs.Plants.{mostPlants, noPlant}
 use Rattle.records.specs.Segments.{mostSegments}
 use Rattle.records.specs.Within.{Each, PlantWithin}
 use Rattle.records.proofs.Within.{each-at}
-use Rattle.accounts.specs.Walk.{Standing, starting, passes, brings, nowhere}
+use Rattle.accounts.specs.Walk.{Standing, atFirst, passes, brings, nowhere}
 use Rattle.accounts.specs.Accounts.{setOf}
 use Rattle.accounts.proofs.Sets.{set-with, set-without}
 use Rattle.period.specs.Inside.{Sized, cell, SetsHold, Started}
-use Rattle.period.proofs.Cells.{Filled, none-yet, put-into, put, put-sized, put-filled}
+use Rattle.period.proofs.Cells.{zeros, no-amount, Filled, none-yet, put-into, put, put-sized, put-filled}
 
 -- ---- before: no amounts, and no plants in the sets
-abbrev zeros : ℕ → List ℕ
-zeros segments = replicate segments 0
-
-no-amount : (segments s : ℕ) → getD (zeros segments) s 0 ≡ 0
-no-amount zero s = refl
-no-amount (suc segments) zero = refl
-no-amount (suc segments) (suc s) = no-amount segments s
-
 no-cell : (plants segments p s : ℕ) → cell (replicate plants (zeros segments)) p s ≡ 0
 no-cell zero segments p s = refl
 no-cell (suc plants) segments zero s = no-amount segments s
 no-cell (suc plants) segments (suc p) s = no-cell plants segments p s
 
 -- ---- a plant stands before its first segment, and brings there what it exported
-first-is : (plant : Plant) (s : ℕ) → 1 ≤ plant .first → eqb s (plant .first - 1) ≡ passes (suc s) (starting plant)
-first-is plant s h = by-test (passes (suc s) (starting plant)) refl
+-- the index of its first segment tells where it stands
+first-is : (plant : Plant) (s : ℕ) → 1 ≤ plant .first → eqb s (plant .first - 1) ≡ passes (suc s) (atFirst plant)
+first-is plant s h = by-test (passes (suc s) (atFirst plant)) refl
   where
-    by-test : (t : Bool) → passes (suc s) (starting plant) ≡ t → eqb s (plant .first - 1) ≡ t
+    by-test : (t : Bool) → passes (suc s) (atFirst plant) ≡ t → eqb s (plant .first - 1) ≡ t
     by-test true e = eq-eqb s (plant .first - 1) (omega (arith, eqb-true (plant .first) (suc s) e))
     by-test false e = ne-eqb s (plant .first - 1) (λ here. eqb-false (plant .first) (suc s) e (omega arith))
 
-brought : (plant : Plant) (s : ℕ) → 1 ≤ plant .first → cond (eqb s (plant .first - 1)) (plant .exported) 0 ≡ brings (suc s) (starting plant)
+-- and what it brings to each
+brought : (plant : Plant) (s : ℕ) → 1 ≤ plant .first → cond (eqb s (plant .first - 1)) (plant .exported) 0 ≡ brings (suc s) (atFirst plant)
 brought plant s h = ap (λ (t : Bool). cond t (plant .exported) 0) (first-is plant s h)
 
 -- ---- one plant more goes into the set of its first segment, by the shift and the or of the machine
+-- the set of that segment, and all sets, with the plant
 abbrev with-plant : Plant → (p : ℕ) → List ℕ → ℕ
 with-plant plant p sets = bitOr (getD sets (plant .first - 1) 0) (1 * 2 ^ p % 2 ^ 64)
 
@@ -63,30 +58,30 @@ bit p few = shl-exact {a = 1} 1 p 64 (omega arith) (omega arith) ∙ one-mul (2 
 joins :
     (standings : List Standing) (plant : Plant) (p : ℕ) (sets : List ℕ) →
     length standings ≡ p → p < mostPlants → 1 ≤ plant .first → plant .first ≤ length sets → SetsHold standings 0 sets →
-    SetsHold (standings ++ (starting plant ∷ [])) 0 (joined plant p sets)
+    SetsHold (standings ++ (atFirst plant ∷ [])) 0 (joined plant p sets)
 joins standings plant p sets so-many few some-first first hold s low high =
     put-into sets (plant .first - 1) (with-plant plant p sets) (omega arith) s
     ∙ ap (λ (t : Bool). cond t (with-plant plant p sets) (getD sets s 0)) (first-is plant s some-first)
-    ∙ by-test (passes (suc s) (starting plant)) refl
+    ∙ by-test (passes (suc s) (atFirst plant)) refl
   where
     by-test :
-        (t : Bool) → passes (suc s) (starting plant) ≡ t →
-        cond t (with-plant plant p sets) (getD sets s 0) ≡ setOf (suc s) 0 (standings ++ (starting plant ∷ []))
+        (t : Bool) → passes (suc s) (atFirst plant) ≡ t →
+        cond t (with-plant plant p sets) (getD sets s 0) ≡ setOf (suc s) 0 (standings ++ (atFirst plant ∷ []))
     by-test true e =
         let here : plant .first - 1 ≡ s = omega (arith, eqb-true (plant .first) (suc s) e) in
-        rw (here, hold s low high, bit p few, ← so-many) (set-with (suc s) standings (starting plant) e)
-    by-test false e = hold s low high ∙ sym (set-without (suc s) standings (starting plant) e)
+        rw (here, hold s low high, bit p few, ← so-many) (set-with (suc s) standings (atFirst plant) e)
+    by-test false e = hold s low high ∙ sym (set-without (suc s) standings (atFirst plant) e)
 
 module _ (plants : List Plant) where
   -- ---- where the first so many plants start: one plant more, how many there are, and each by its index
-  one-more : (p : ℕ) → p < length plants → map starting (take (p + 1) plants) ≡ map starting (take p plants) ++ (starting (getD plants p noPlant) ∷ [])
-  one-more p h = rw (add-one, take-suc plants p noPlant h) (map-append starting (take p plants) (getD plants p noPlant ∷ []))
+  one-more : (p : ℕ) → p < length plants → map atFirst (take (p + 1) plants) ≡ map atFirst (take p plants) ++ (atFirst (getD plants p noPlant) ∷ [])
+  one-more p h = rw (add-one, take-suc plants p noPlant h) (map-append atFirst (take p plants) (getD plants p noPlant ∷ []))
 
-  so-many : (p : ℕ) → p ≤ length plants → length (map starting (take p plants)) ≡ p
-  so-many p h = length-map (take p plants) starting ∙ length-take-le p plants h
+  so-many : (p : ℕ) → p ≤ length plants → length (map atFirst (take p plants)) ≡ p
+  so-many p h = length-map (take p plants) atFirst ∙ length-take-le p plants h
 
-  start-of : (count p : ℕ) → p < count → getD (map starting (take count plants)) p nowhere ≡ starting (getD plants p noPlant)
-  start-of count p h = List·getD-map starting (take count plants) p noPlant ∙ ap starting (getD-take count plants p noPlant h)
+  start-of : (count p : ℕ) → p < count → getD (map atFirst (take count plants)) p nowhere ≡ atFirst (getD plants p noPlant)
+  start-of count p h = List·getD-map atFirst (take count plants) p noPlant ∙ ap atFirst (getD-take count plants p noPlant h)
 
   -- ---- the limits of one of the first so many plants
   pub plant-within :
@@ -98,9 +93,9 @@ module _ (plants : List Plant) where
   -- ---- the loop: so many plants are at their start, and the others nowhere
   pub record AtStart (p : ℕ) (table : List (List ℕ)) (sets : List ℕ) : Type 0 where
     pub sized : Sized table
-    pub amounts : Filled p (λ q s. brings (suc s) (starting (getD plants q noPlant))) (λ q s. 0) table
+    pub amounts : Filled p (λ q s. brings (suc s) (atFirst (getD plants q noPlant))) (λ q s. 0) table
     pub sets-sized : length sets ≡ mostSegments
-    pub members : SetsHold (map starting (take p plants)) 0 sets
+    pub members : SetsHold (map atFirst (take p plants)) 0 sets
 
   -- none, before the first turn
   pub none-started : AtStart 0 (replicate mostPlants (zeros mostSegments)) (zeros mostSegments)
@@ -132,7 +127,7 @@ module _ (plants : List Plant) where
         sets-sized = rw length-set (so-far .sets-sized);
         members =
             rw (one-more p (omega arith))
-            (joins (map starting (take p plants)) plant p sets (so-many p (omega arith)) few (w .some-first) (omega (arith, w, so-far .sets-sized)) (so-far .members));
+            (joins (map atFirst (take p plants)) plant p sets (so-many p (omega arith)) few (w .some-first) (omega (arith, w, so-far .sets-sized)) (so-far .members));
       }
 
   -- all, after the last turn

@@ -1,4 +1,4 @@
--- What a segment's turn does to one plant: to what it brings, to the set that it is in, and to how much it has.
+-- What a segment's turn does to one plant: to what it brings, and to the set that it is in.
 use Prim.Native.Nat.{ℕ, _≤_}
 use mathlib.Core.Path.{_≡_, refl, sym, _∙_}
 use mathlib.Core.Bool.{Bool, true, false, cond, _&&_, _||_}
@@ -15,15 +15,18 @@ eqb-sym m n = by-test (eqb m n) refl
     by-test true e = e ∙ sym (eq-eqb n m (sym (eqb-true m n e)))
     by-test false e = e ∙ sym (ne-eqb n m (λ same. eqb-false m n e (sym same)))
 
+-- a test is what it chooses between true and false
 itself : (b : Bool) → b ≡ cond b true false
 itself true = refl
 itself false = refl
 
+-- what is false adds nothing to another test
 either : (b c : Bool) → c ≡ cond b (c || false) c
 either true true = refl
 either true false = refl
 either false c = refl
 
+-- a plant brings no more than it has
 pub brings-most : (n : ℕ) (standing : Standing) → brings n standing ≤ standing .amount
 brings-most n standing = by-test (passes n standing)
   where
@@ -32,6 +35,7 @@ brings-most n standing = by-test (passes n standing)
     by-test false = omega arith
 
 module _ (own next credit : ℕ) (standing : Standing) where
+  -- where the turn leaves the plant
   abbrev sent : Standing
   sent = sentOn own next standing credit
 
@@ -59,11 +63,3 @@ module _ (own next credit : ℕ) (standing : Standing) where
           let off : passes n standing ≡ false = ne-eqb (standing .before) n (λ same. other (sym same ∙ eqb-true (standing .before) own e)) in
           rw off (eqb-sym next n ∙ itself (eqb n next))
       by-test false e = either (eqb n next) (passes n standing)
-
-  -- how much it then has
-  pub no-more : (most : ℕ) → credit ≤ standing .amount → standing .amount ≤ most → sent .amount ≤ most
-  no-more most less few = by-test (passes own standing)
-    where
-      by-test : (b : Bool) → cond b (record { before = next; amount = credit }) standing .amount ≤ most
-      by-test true = omega arith
-      by-test false = few

@@ -1,5 +1,5 @@
 -- The owners' totals: the loop that adds up the lines, with one law for its start, each way through a turn, and its end.
-use Prim.Native.Nat.{ℕ, zero, suc, _+_, _-_, _*_, _≤_, _<_}
+use Prim.Native.Nat.{ℕ, suc, _+_, _-_, _*_, _≤_, _<_}
 use mathlib.Core.Path.{_≡_, refl, sym, ap, _∙_}
 use mathlib.Core.Bool.{cond}
 use mathlib.Core.List.{List, [], _∷_, _++_, map}
@@ -8,7 +8,7 @@ use native.Mathlib.Decide.{decLe, ℕ-discrete}
 use native.Mathlib.Numerals.{add-one}
 use native.Mathlib.Omega.{arith}
 use lib.Dec.{ltb, eqb}
-use lib.ListN.{length, take, drop, getD, set, replicate, length-set, drop-of-length-le, List·getD-map}
+use lib.ListN.{length, take, drop, getD, set, length-set, drop-of-length-le, List·getD-map}
 use lib.Seq.{take-all, take-suc, drop-cons, getD-set-same, getD-set-other}
 use borrow.Author.Tests.{lt-ltb, le-ltb, eq-eqb, ne-eqb}
 use Rattle.number.specs.Groups.{largest}
@@ -20,12 +20,14 @@ use Rattle.records.specs.Classes.{plantOwner, segmentOwner}
 use Rattle.records.specs.Lines.{largestFactor, noLine}
 use Rattle.records.specs.Refusals.{tooManyGrams}
 use Rattle.records.specs.Within.{Each, LineWithin}
+use Rattle.records.proofs.Verdicts.{refuses-not-accepts}
 use Rattle.records.proofs.Within.{each-at}
 use Rattle.accounts.specs.Emissions.{mostGrams, grams, ownedBy, gramsOf, gramsInKg, inKg, emission}
 use Rattle.accounts.specs.Order.{Answer, refusal, Test, tested, lineTests}
 use Rattle.accounts.proofs.Credits.{up-most}
 use Rattle.accounts.proofs.OwnersLines.{grams-of-both}
 use Rattle.period.specs.Inside.{ownerPlace, FewGrams, AddedUp}
+use Rattle.period.proofs.Cells.{zeros, no-amount}
 
 -- the places for plants and for segments
 abbrev pub owners : ℕ
@@ -59,6 +61,7 @@ owned {ownerKind} {owner} {place} {place'} line o o' = by-owner (ℕ-discrete (l
 any-number : {plants segments own : ℕ} {line : Line} → LineWithin plants segments own line → LineWithin plants segments 1 line
 any-number within = search
 
+-- so each of some lines is within them, by its index
 pub line-within :
     (lines : List Line) (l : ℕ) → l < length lines → Each (LineWithin mostPlants mostSegments) 1 lines → LineWithin mostPlants mostSegments 1 (getD lines l noLine)
 line-within lines l more all = any-number (each-at (LineWithin mostPlants mostSegments) 1 lines l noLine (1 + l) refl more all)
@@ -85,12 +88,6 @@ grams-after :
 unfolding gramsOf
 grams-after ownerKind owner lines line = omega (arith, grams-of-both ownerKind owner lines (line ∷ []))
 
--- totals before any line
-none : (count o : ℕ) → _≡_ {A = ℕ} (getD (replicate count 0) o 0) 0
-none zero o = refl
-none (suc count) zero = refl
-none (suc count) (suc o) = none count o
-
 -- a total that does not pass the limit is no more kg than a number may be
 few-kg : (total : ℕ) → total ≤ mostGrams → inKg total ≤ largest
 few-kg total few = up-most gramsInKg total largest (omega arith)
@@ -110,12 +107,12 @@ pub record Next (lines : List Line) (l : ℕ) (line : Line) (place : ℕ) : Type
   pub owner : Owner (line .«owner_kind») (line .owner) place
 
 -- no line is added up yet
-pub adding-start : (lines : List Line) → Adding lines (replicate owners 0) 0
+pub adding-start : (lines : List Line) → Adding lines (zeros owners) 0
 unfolding gramsOf
 adding-start lines = record {
   places = refl;
-  few = λ o. rw (none owners o) (omega arith);
-  total = λ ownerKind owner place o. none owners place;
+  few = λ o. rw (no-amount owners o) (omega arith);
+  total = λ ownerKind owner place o. no-amount owners place;
   passed = λ rest answer. refl;
 }
 
@@ -171,11 +168,11 @@ module _ {lines : List Line} {totals : List ℕ} {l : ℕ} {line : Line} {place 
   })
 
   -- the line fails its test
-  pub adding-refused : mostGrams < line-total → AddedUp (record { answer = Grams (l + 1); kg = replicate owners 0 }) lines
+  pub adding-refused : mostGrams < line-total → AddedUp (record { answer = Grams (l + 1); kg = zeros owners }) lines
   adding-refused many = record {
     tests = λ rest answer. line-tested rest answer ∙ rw (lt-ltb mostGrams line-total many, add-one l);
-    kg = λ is. let clash : _≡_ {A = ℕ} 0 1 = cc in absurd (omega arith);
-    small = λ o. rw (none owners o) (omega arith);
+    kg = λ is. absurd (refuses-not-accepts is);
+    small = λ o. rw (no-amount owners o) (omega arith);
   }
 
 -- no line is left

@@ -4,7 +4,7 @@ use mathlib.Core.Path.{_≡_, refl, sym, ap, _∙_}
 use mathlib.Core.Bool.{Bool, true, false, cond, _||_, and-false}
 use mathlib.Core.List.{List, [], _∷_, _++_, append-assoc, map}
 use mathlib.Core.Logic.{_⊎_, inl, inr, ⊎-elim}
-use native.Mathlib.Nat.{le-trans, le-of-suc-le-suc, eq-or-lt-of-le}
+use native.Mathlib.Nat.{le-of-suc-le-suc, eq-or-lt-of-le}
 use native.Mathlib.Omega.{arith}
 use lib.Bits.{bitOr}
 use lib.Dec.{eqb}
@@ -20,33 +20,35 @@ use Rattle.records.specs.Segments.{mostSegments, noSegment}
 use Rattle.records.specs.Within.{Each, PlantWithin, SegmentWithin}
 use Rattle.records.specs.Answers.{Verdict, accepts, refuses}
 use Rattle.records.proofs.Within.{each-at}
-use Rattle.accounts.specs.Walk.{Standing, starting, passes, brings, amounts as entering, sum, credits, sentOn, passed, turns, arrived, nowhere}
+use Rattle.accounts.specs.Walk.{Standing, atFirst, passes, brings, amounts as entering, sum, credits, sentOn, passed, turns, arrived, nowhere}
 use Rattle.accounts.specs.Accounts.{Account, setOf, account, hasBit}
 use Rattle.accounts.specs.Order.{Answer, Test, tested, segmentTests}
-use Rattle.accounts.proofs.Credits.{credited-most}
 use Rattle.accounts.proofs.Sets.{set-has, set-same, set-joined}
-use Rattle.accounts.proofs.Walks.{getD-map, passed-at, arrived-on}
-use Rattle.accounts.proofs.Turned.{sent-ahead, after as turned-after, after-length as turned-length}
+use Rattle.accounts.proofs.Walks.{getD-map, passed-at}
+use Rattle.accounts.proofs.Turned.{after as turned-after, after-length as turned-length, after-on as turned-on, turn-is}
+use Rattle.accounts.proofs.Fits.{kept-so-far}
 use Rattle.period.specs.Inside.{Passes, Refuses, KgOf, Sized, cell, column, AmountsHold, SetsHold, StoredHold, Started, accountBy, Moved, periodOf}
 use Rattle.period.proofs.Columns.{column-length, column-at}
-use Rattle.period.proofs.Steps.{brings-most, brought, stands, no-more as at-most}
+use Rattle.period.proofs.Steps.{brought, stands}
 
 module _ (plants : List Plant) (segments : List Segment) where
   -- where the plants are after so many turns, whatever the lines
   abbrev pub after : ℕ → List Standing
   after = turned-after (periodOf plants segments [])
 
+  -- there are as many as the period has
   pub after-length : (s : ℕ) → length (after s) ≡ length plants
   after-length = turned-length (periodOf plants segments [])
 
-  pub after-on : (s : ℕ) → s < length segments → after (suc s) ≡ passed (suc s) (getD segments s noSegment) (after s)
-  after-on s below = arrived-on 1 segments (map starting plants) s (suc s) (omega arith) below
+  -- after one turn more
+  after-on : (s : ℕ) → s < length segments → after (suc s) ≡ passed (suc s) (getD segments s noSegment) (after s)
+  after-on = turned-on (periodOf plants segments [])
 
   -- where a plant is after so many turns
   abbrev pub at : (s p : ℕ) → Standing
   at s p = getD (after s) p nowhere
 
-  -- the tests and accounts of all turns from the one at an index on, for these lines
+  -- the accounts of all turns from the one at an index on, for these lines
   abbrev left : List Line → ℕ → List Account
   left lines s = map (account lines) (turns (suc s) (drop s segments) (after s))
 
@@ -70,19 +72,27 @@ module _ (plants : List Plant) (segments : List Segment) where
     pub members : SetsHold (after s) s sets
     pub kept : StoredHold (after s) stored
     pub past : (j : ℕ) → j < s → Past table sets inflows j
-    -- a plant is before a segment that is still to come, or past its store, with no more than it exported
-    pub ahead : (p : ℕ) → p < length plants → (at s p .before ≡ 0) ⊎ ((s < at s p .before) × (at s p .before ≤ length segments))
-    pub no-more : (p : ℕ) → p < length plants → at s p .amount ≤ getD plants p noPlant .exported
     -- no test has failed
     pub tests :
         (lines : List Line) → KgOf kg lines → (rest : List Test) (answer : Answer) →
         tested (segmentTests (left lines 0) ++ rest) answer ≡ tested (segmentTests (left lines s) ++ rest) answer
+
+  -- no more left a segment that is past than entered it, so no plant has more than it exported
+  pub no-more :
+      {kg : List ℕ} {s : ℕ} {table : List (List ℕ)} {sets inflows stored : List ℕ} → AtTurn kg s table sets inflows stored →
+      (p : ℕ) → p < length plants → at s p .amount ≤ getD plants p noPlant .exported
+  no-more {s} now p plant =
+      let period = periodOf plants segments [] in
+      kept-so-far period p plant s (now .worked) (λ j early.
+      let past = now .past j early in
+      rw (turn-is period j (omega (arith, early, now .worked))) (rw (past .inflow) at (past .out)))
 
   module _
       (few-plants : length plants ≤ mostPlants)
       (few-segments : length segments ≤ mostSegments)
       (plants-within : Each (PlantWithin (length segments)) 1 plants)
       (segments-within : Each (SegmentWithin (length segments)) 1 segments) where
+    -- each record by its index
     pub plant-within : (p : ℕ) → p < length plants → PlantWithin (length segments) (suc p) (getD plants p noPlant)
     plant-within p below = each-at (PlantWithin (length segments)) 1 plants p noPlant (suc p) (omega arith) below plants-within
 
@@ -90,10 +100,11 @@ module _ (plants : List Plant) (segments : List Segment) where
     segment-within s below = each-at (SegmentWithin (length segments)) 1 segments s noSegment (suc s) (omega arith) below segments-within
 
     -- ---- before the first turn
-    start-at : (p : ℕ) → p < length plants → at 0 p ≡ starting (getD plants p noPlant)
+    start-at : (p : ℕ) → p < length plants → at 0 p ≡ atFirst (getD plants p noPlant)
     unfolding arrived
-    start-at p below = getD-map starting plants p noPlant nowhere below
+    start-at p below = getD-map atFirst plants p noPlant nowhere below
 
+    -- what holds then
     pub at-start :
         (kg : List ℕ) (table : List (List ℕ)) (sets inflows stored : List ℕ) → Started plants table sets →
         length inflows ≡ mostSegments → length stored ≡ mostPlants → ((p : ℕ) → getD stored p 0 ≡ 0) →
@@ -109,8 +120,6 @@ module _ (plants : List Plant) (segments : List Segment) where
       members = started .members;
       kept = λ p below. none p ∙ nothing p (rw (after-length 0) at below);
       past = λ j below. absurd (omega (arith, below));
-      ahead = λ p below. rw (start-at p below) (inr (plant-within p below .some-first, plant-within p below .first));
-      no-more = λ p below. rw (start-at p below) (omega arith);
       tests = λ lines is rest answer. refl;
     }
       where
@@ -123,11 +132,12 @@ module _ (plants : List Plant) (segments : List Segment) where
     module _
         (kg : List ℕ) (s : ℕ) (table : List (List ℕ)) (sets inflows stored : List ℕ)
         (now : AtTurn kg s table sets inflows stored) (below : s < length segments) where
+      -- the segment whose turn it is
       abbrev segment : Segment
       segment = getD segments s noSegment
 
       -- what the plants bring is the column of the segment, and who they are its set
-      pub entering-is : column (length plants) s table ≡ entering (suc s) (after s)
+      entering-is : column (length plants) s table ≡ entering (suc s) (after s)
       entering-is =
           ext-getD 0 (column (length plants) s table) (entering (suc s) (after s))
           (columned ∙ sym (length-map (after s) (brings (suc s)) ∙ after-length s))
@@ -149,7 +159,7 @@ module _ (plants : List Plant) (segments : List Segment) where
           ∙ set-has (suc s) (after s) p (rw (sym (after-length s)) at here)
 
       -- the account of the definitions is that of the tables
-      pub account-is :
+      account-is :
           (lines : List Line) → KgOf kg lines →
           account lines (record { own = suc s; segment = segment; standings = after s })
           ≡ accountBy (length plants) s segment (getD kg (mostPlants + s) 0) table sets
@@ -164,6 +174,7 @@ module _ (plants : List Plant) (segments : List Segment) where
       unfolding turns segmentTests
       next-tests lines is = rw (drop-cons segments s noSegment below, account-is lines is, after-on s below) refl
 
+      -- so of all tests these are left
       reached :
           (lines : List Line) → KgOf kg lines → (rest : List Test) (answer : Answer) →
           tested (segmentTests (left lines 0) ++ rest) answer ≡ tested (own-tests ++ (segmentTests (left lines (suc s)) ++ rest)) answer
@@ -189,9 +200,11 @@ module _ (plants : List Plant) (segments : List Segment) where
           (moved :
           Moved (length plants) (getD sets s 0) (credits (segment .outflow) (column (length plants) s table)) (segment .next)
           table table' sets sets' stored stored') where
+        -- what a plant is credited
         abbrev credit : ℕ → ℕ
         credit p = getD (credits (segment .outflow) (column (length plants) s table)) p 0
 
+        -- where it is after the turn
         at-next : (p : ℕ) → p < length plants → at (suc s) p ≡ sentOn (suc s) (segment .next) (at s p) (credit p)
         at-next p here =
             ap (λ (standings : List Standing). getD standings p nowhere) (after-on s below)
@@ -213,6 +226,7 @@ module _ (plants : List Plant) (segments : List Segment) where
         set-stays : (j : ℕ) → j ≤ s → getD sets' j 0 ≡ getD sets j 0
         set-stays j earlier = moved .members j (omega arith) ∙ rw (not-next j earlier) refl
 
+        -- so what was past still is, and so is this turn
         past-on : (j : ℕ) → (j < s) ⊎ (j ≡ s) → Past table' sets' (set inflows s inflow) j
         past-on j (inl earlier) =
             let past = now .past j earlier in
@@ -235,13 +249,7 @@ module _ (plants : List Plant) (segments : List Segment) where
             }
             )
 
-        -- what a plant is credited is no more than it brought
-        credit-most : (p : ℕ) → p < length plants → credit p ≤ at s p .amount
-        credit-most p here =
-            let most = credited-most (segment .outflow) (column (length plants) s table) p (rw inflow-is at out) in
-            let brought-is = column-at (length plants) s table p here ∙ now .amounts p s (rw (sym (after-length s)) at here) (omega arith) (omega arith) in
-            le-trans most (rw brought-is (brings-most (suc s) (at s p)))
-
+        -- the sets hold who stands before each segment that is left
         members-on : SetsHold (after (suc s)) (suc s) sets'
         members-on j from here = moved .members j here ∙ by-test (eqb (suc j) (segment .next)) refl
           where
@@ -260,6 +268,7 @@ module _ (plants : List Plant) (segments : List Segment) where
                 now .members j (omega arith) here
                 ∙ sym (set-same (suc j) (suc j) (after s) (after (suc s)) same-length (λ p placed. rw e at (others p placed)))
 
+        -- so the next turn can come
         pub on-turn : AtTurn kg (suc s) table' sets' (set inflows s inflow) stored'
         on-turn = record {
           sized = moved .sized;
@@ -277,7 +286,5 @@ module _ (plants : List Plant) (segments : List Segment) where
               ∙ rw (has p plant, now .kept p (rw (sym (after-length s)) at plant), at-next p plant)
               (brought (suc s) (segment .next) (credit p) (at s p) 0 (λ e. omega (arith, e)));
           past = λ j earlier. past-on j (⊎-elim (λ same. inr same) (λ before. inl before) (eq-or-lt-of-le (le-of-suc-le-suc earlier)));
-          ahead = λ p plant. rw (at-next p plant) (sent-ahead (length segments) s (suc s) (segment .next) (credit p) (at s p) refl (segment-within s below .next) (now .ahead p plant));
-          no-more = λ p plant. rw (at-next p plant) (at-most (suc s) (segment .next) (credit p) (at s p) (getD plants p noPlant .exported) (credit-most p plant) (now .no-more p plant));
           tests = λ lines is rest answer. reached lines is rest answer ∙ passes-all (segmentTests (left lines (suc s)) ++ rest) answer;
         }

@@ -1,7 +1,7 @@
 -- A segment's turn in the tables: the plants of its set go on to the next segment, or into the store.
 use Prim.Native.Nat.{ℕ, suc, _-_, _≤_, _<_}
 use mathlib.Core.Path.{_≡_, refl, sym, ap, _∙_}
-use mathlib.Core.Bool.{Bool, true, false, cond, _&&_, and-false}
+use mathlib.Core.Bool.{Bool, true, false, cond, _&&_, and-true, and-false}
 use mathlib.Core.List.{List}
 use mathlib.Core.Logic.{⊎-elim}
 use native.Mathlib.Nat.{le-trans}
@@ -38,12 +38,8 @@ module _ (plants members : ℕ) (array credited : List ℕ) (front : take plants
     stored-sized = put .sized;
     amounts = λ p s below. rw (eqb·suc-zero s, and-false (hasBit members p)) refl;
     members = λ s below. rw (eqb·suc-zero s) refl;
-    kept = λ p below. put .amounts p below ∙ same p below (hasBit members p) (getD stored p 0) ∙ every (hasBit members p) (getD credited p 0) (getD stored p 0);
+    kept = λ p below. put .amounts p below ∙ same p below (hasBit members p) (getD stored p 0) ∙ rw (and-true (hasBit members p)) refl;
   }
-    where
-      every : (b : Bool) (m n : ℕ) → cond b m n ≡ cond (b && true) m n
-      every true m n = refl
-      every false m n = refl
 
   -- the segment after this one, by its index
   moved-to :

@@ -1,15 +1,12 @@
--- Writing rows of one length into a table, one after another; and how large a segment's charge can be.
-use Prim.Native.Nat.{ℕ, suc, _+_, _-_, _*_, _^_, _≤_, _<_}
+-- Writing rows of one length into a table, one after another: the loop that does, with one law for its start, a turn, and its end.
+use Prim.Native.Nat.{ℕ, suc, _+_, _*_, _≤_, _<_}
 use mathlib.Core.Path.{_≡_, sym, ap, _∙_}
 use mathlib.Core.List.{List, [], _++_}
-use native.Mathlib.Nat.{le-trans, mul-comm, mul-le-mul, mul-le-mul-left, mul-zero}
+use native.Mathlib.Nat.{mul-le-mul-left, mul-zero}
 use native.Mathlib.Numerals.{add-one}
 use native.Mathlib.Omega.{arith}
 use lib.ListN.{length, take, drop, length-append}
 use lib.Seq.{take-at, drop-at, drop-drop, length-front, length-take-le}
-use Rattle.number.specs.Groups.{largest}
-use Rattle.accounts.specs.Emissions.{roundedUp}
-use Rattle.accounts.proofs.Credits.{up-most}
 
 -- ---- rows of n numbers, one behind another
 module _ (n : ℕ) (rows : ℕ → List ℕ) (count : ℕ) (entry : List ℕ) where
@@ -54,13 +51,3 @@ module _ {n : ℕ} {rows : ℕ → List ℕ} {count : ℕ} {entry table : List �
   -- all are written
   pub writing-end : count ≤ k → table ≡ rows count ++ drop (n * count) entry
   writing-end all = let here : k ≡ count = omega arith in rw here at (w .so-far)
-
--- ---- what a segment charges for an amount that is not over its inflow
-module _ {amount inflow emission : ℕ} (h : (amount ≤ inflow) × (inflow ≤ largest) × (emission ≤ largest)) where
-  -- its product, as rounding up takes it, fits the numbers of the machine
-  pub charge-fits : amount * emission + (inflow - 1) < 2 ^ 64
-  charge-fits = omega (arith, mul-le-mul (le-trans (h .0) (h .1)) (h .2))
-
-  -- it is not over the segment's emission
-  pub charge-at-most : roundedUp (amount * emission) inflow ≤ emission
-  charge-at-most = up-most inflow (amount * emission) emission (rw (mul-comm amount emission) (mul-le-mul-left emission (h .0)))

@@ -17,7 +17,7 @@ use Rattle.records.specs.Classes.{plantOwner, segmentOwner}
 use Rattle.records.specs.Periods.{Period}
 use Rattle.records.specs.Answers.{Verdict, accepts, refuses, said}
 use Rattle.accounts.specs.Emissions.{mostGrams, emission, roundedUp}
-use Rattle.accounts.specs.Walk.{Standing, nowhere, starting, brings, sum, credits}
+use Rattle.accounts.specs.Walk.{Standing, nowhere, atFirst, brings, sum, credits}
 use Rattle.accounts.specs.Accounts.{Account, setOf, hasBit}
 use Rattle.accounts.specs.Rows.{plantRow, segmentRow}
 use Rattle.accounts.specs.Order.{Answer, refusal, Test, tested, lineTests, segmentTests, plantNumbers, segmentNumbers, tableTests}
@@ -55,6 +55,7 @@ pub record KgOf (kg : List ℕ) (lines : List Line) : Type 0 where
   pub plants : (p : ℕ) → p < mostPlants → getD kg p 0 ≡ emission plantOwner (suc p) lines
   pub segments : (s : ℕ) → s < mostSegments → getD kg (mostPlants + s) 0 ≡ emission segmentOwner (suc s) lines
 
+-- what adding up the lines comes to: their tests, and where these pass every owner's emission
 pub record AddedUp (r : Emissions) (lines : List Line) : Type 0 where
   pub tests : Passes (said (r .answer)) (lineTests lines 0 lines)
   pub kg : said (r .answer) ≡ accepts → KgOf (r .kg) lines
@@ -65,6 +66,7 @@ pub record Sized (table : List (List ℕ)) : Type 0 where
   pub rows : length table ≡ mostPlants
   pub amounts : (p : ℕ) → p < mostPlants → length (getD table p []) ≡ mostSegments
 
+-- a plant's amount at a segment, each by its index
 abbrev pub cell : List (List ℕ) → (p s : ℕ) → ℕ
 cell table p s = getD (getD table p []) s 0
 
@@ -87,8 +89,8 @@ StoredHold standings stored = (p : ℕ) → p < length standings → getD stored
 pub record Started (plants : List Plant) (table : List (List ℕ)) (sets : List ℕ) : Type 0 where
   pub sized : Sized table
   pub sets-sized : length sets ≡ mostSegments
-  pub amounts : AmountsHold (map starting plants) 0 table
-  pub members : SetsHold (map starting plants) 0 sets
+  pub amounts : AmountsHold (map atFirst plants) 0 table
+  pub members : SetsHold (map atFirst plants) 0 sets
 
 -- ---- a segment's turn
 -- the credits of the plants of a set, put at an index of the plants' rows, or into what is stored
@@ -122,6 +124,7 @@ pub record Moved
   pub members : (s : ℕ) → s < mostSegments → getD sets' s 0 ≡ cond (eqb (suc s) next) (bitOr (getD sets s 0) set) (getD sets s 0)
   pub kept : (p : ℕ) → p < plants → getD stored' p 0 ≡ cond (hasBit set p && eqb 0 next) (getD credited p 0) (getD stored p 0)
 
+-- what a turn comes to: a test refuses the period; or all pass, and the plants of the segment's set go on with their credits
 abbrev pub Worked :
     (plants s : ℕ) → Segment → (emission : ℕ) → Turn →
     (table table' : List (List ℕ)) → (sets sets' stored stored' : List ℕ) → Type 0
@@ -172,6 +175,7 @@ module _ (segments : List Segment) (sets inflows kg : List ℕ) where
   segmentRowsBy (suc s) =
       segmentRowsBy s ++ segmentRow (getD inflows s 0) (getD segments s noSegment .outflow) (getD kg (mostPlants + s) 0) (getD sets s 0)
 
+  -- what the rows of so many segments, in a table of so many numbers, ask of the tables
   pub record SegmentsWritable (count room : ℕ) : Type 0 where
     pub enough : segmentNumbers * count ≤ room
     pub most-segments : count ≤ mostSegments
@@ -182,6 +186,7 @@ abbrev pub Finished : Answer → Verdict → (plants plants' segments segments' 
 Finished answer verdict plants plants' segments segments' =
     (verdict ≡ verdictOf answer) × (plants' ≡ plantsAfter answer plants) × (segments' ≡ segmentsAfter answer segments)
 
+-- the period of these records
 abbrev pub periodOf : List Plant → List Segment → List Line → Period
 periodOf plants segments lines = record { plants = plants; segments = segments; lines = lines }
 
@@ -192,6 +197,7 @@ settled period plantTable segmentTable =
     (segmentTests (accountsOf period) ++ tableTests (length (period .plants)) (length (period .segments)) plantTable segmentTable)
     (rows period (accountsOf period))
 
+-- settling finishes the period, for all such lines
 abbrev pub Settled : List Plant → List Segment → List ℕ → Verdict → (plantTable plantTable' segmentTable segmentTable' : List ℕ) → Type 0
 Settled plants segments kg verdict plantTable plantTable' segmentTable segmentTable' =
     (lines : List Line) → KgOf kg lines →

@@ -27,6 +27,7 @@ pub const PLANT_NUMBERS: usize = 8;
 
 pub const SEGMENT_NUMBERS: usize = 5;
 
+// "one unit a tonne"
 const KG_IN_UNIT: u64 = 1000;
 
 // Writes the rows of so many plants, one after another.

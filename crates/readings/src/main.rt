@@ -90,6 +90,7 @@ fn print(reading: Reading) -> bool {
         && io::write_all(STDOUT_FILENO, b"\n")
 }
 
+// "R, number, place"
 fn print_refusal(answer: Answer) -> bool {
     io::write_all(STDOUT_FILENO, b"R")
         && print_number(answer.refusal() as u64)

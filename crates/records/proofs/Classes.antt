@@ -14,6 +14,7 @@ use Rattle.records.specs.declared.class.Class.{Class}
 use Rattle.records.specs.Classes.{plantOwner, segmentOwner, classes, allowedBy, classAllowed}
 use Rattle.records.proofs.Table.{both, throughout, at-row}
 
+-- the code of the first row
 abbrev firstCode : ℕ
 firstCode = 1
 
@@ -21,12 +22,14 @@ firstCode = 1
 right : (Class → Bool) → ℕ → ℕ → Class → Bool
 right says ownerKind code class = Bool·beq (says class) (classAllowed ownerKind code)
 
+-- what a test finds alike is the same
 same : (a b : Bool) → T (Bool·beq a b) → a ≡ b
 same true true t = refl
 same false false t = refl
 same true false t = absurd t
 same false true t = absurd t
 
+-- so says the row of each code, whatever stands past the table
 row-says :
     (says : Class → Bool) (ownerKind : ℕ) → T (throughout (right says ownerKind) firstCode classes) →
     (code : ℕ) (other : Class) → firstCode ≤ code → code ≤ length classes → says (getD classes (code - firstCode) other) ≡ classAllowed ownerKind code
@@ -36,10 +39,12 @@ row-says says ownerKind t code other low high =
     same (says (getD classes (code - firstCode) other)) (classAllowed ownerKind code)
     (rw here at (at-row (right says ownerKind) firstCode classes other t (code - firstCode) (omega arith)))
 
+-- of plants
 pub plant-row : (code : ℕ) (other : Class) → firstCode ≤ code → code ≤ length classes → getD classes (code - firstCode) other .plant ≡ classAllowed plantOwner code
 unfolding right classes classAllowed
 plant-row = row-says (λ (class : Class). class .plant) plantOwner tt
 
+-- and of segments
 pub segment-row : (code : ℕ) (other : Class) → firstCode ≤ code → code ≤ length classes → getD classes (code - firstCode) other .segment ≡ classAllowed segmentOwner code
 unfolding right classes classAllowed
 segment-row = row-says (λ (class : Class). class .segment) segmentOwner tt
@@ -49,6 +54,7 @@ abbrev pub noClass : Class
 noClass = record { code = 0; equation = 0; «last_equation» = 0; plant = false; segment = false }
 
 -- ---- other owners, and other codes
+-- no row allows its class to another owner than a plant or a segment
 no-owner :
     (table : List Class) (ownerKind code : ℕ) → (ownerKind ≡ plantOwner → ⊥) → (ownerKind ≡ segmentOwner → ⊥) →
     allowedBy table ownerKind code ≡ false
@@ -56,6 +62,7 @@ no-owner [] ownerKind code p q = refl
 no-owner (class ∷ rest) ownerKind code p q =
     rw (ne-eqb ownerKind plantOwner p, ne-eqb ownerKind segmentOwner q, and-false (eqb (class .code) code)) (no-owner rest ownerKind code p q)
 
+-- so the table allows none
 pub neither-owner : (ownerKind code : ℕ) → (ownerKind ≡ plantOwner → ⊥) → (ownerKind ≡ segmentOwner → ⊥) → classAllowed ownerKind code ≡ false
 unfolding classAllowed
 neither-owner ownerKind code p q = no-owner classes ownerKind code p q
@@ -64,6 +71,7 @@ neither-owner ownerKind code p q = no-owner classes ownerKind code p q
 inOrder : ℕ → Class → Bool
 inOrder code class = eqb (class .code) code
 
+-- so no row has another code than those
 no-code :
     (table : List Class) (first ownerKind code : ℕ) → T (throughout inOrder first table) →
     ((k : ℕ) → k < length table → first + k ≡ code → ⊥) → allowedBy table ownerKind code ≡ false
@@ -75,10 +83,12 @@ no-code (class ∷ rest) first ownerKind code t h =
     rw (ne-eqb (class .code) code (λ e. h 0 (omega arith) (add-zero first ∙ sym code-is ∙ e)))
     (no-code rest (suc first) ownerKind code (in-place .1) (λ k q e. h (suc k) (omega (arith, q)) (omega (arith, e))))
 
+-- no class before the first row or behind the last is allowed
 pub no-row : (ownerKind code : ℕ) → (code < firstCode) ⊎ (length classes < code) → classAllowed ownerKind code ≡ false
 unfolding inOrder classes classAllowed
 no-row ownerKind code outside = no-code classes firstCode ownerKind code tt (λ k q e. ⊎-elim (λ p. omega (arith, p, q, e)) (λ p. omega (arith, p, q, e)) outside)
 
+-- so one that is allowed is not behind the last
 pub code-at-most : (ownerKind code : ℕ) → classAllowed ownerKind code ≡ true → code ≤ length classes
 code-at-most ownerKind code h = by-code (decLe code (length classes))
   where

@@ -36,6 +36,7 @@ pub data Comes {A : Type 0} (file : List ℕ) : Reader A → ℕ → ℕ → Rea
       {refusal : ℕ} {allowed : ℕ → Bool} {then : ℕ → Reader A} {place at : ℕ} {k : ℕ} →
       readAt file at ≡ oneFault k → Comes file (needs refusal allowed then) place at (refused k place)
 
+-- and that is what reading comes to there
 pub comes :
     {A : Type 0} (file : List ℕ) {reader : Reader A} {place at : ℕ} {outcome : Read A} →
     Comes file reader place at outcome → reads reader place (run (drop at file)) ≡ outcome

@@ -21,6 +21,7 @@ use Rattle.records.specs.Answers.{Verdict, accepts, refuses, said, numbe
 use Rattle.records.specs.Held.{Held}
 
 -- ---- what an answer says in 01's terms determines the answer
+-- the answer that says it
 unsaid : Verdict → Answer
 unsaid accepts = Accepted
 unsaid (refuses refusal place) =
@@ -39,6 +40,7 @@ unsaid (refuses refusal place) =
     (cond (eqb refusal emissionWithoutInflow) (Emission place)
     (cond (eqb refusal plantTableShort) (PlantTable place) (SegmentTable place))))))))))))))
 
+-- for what an answer says, it is that answer
 unsaid-said : (answer : Answer) → unsaid (said answer) ≡ answer
 unfolding unsaid
 unsaid-said Accepted = refl
@@ -58,6 +60,7 @@ unsaid-said (Emission place) = refl
 unsaid-said (PlantTable place) = refl
 unsaid-said (SegmentTable place) = refl
 
+-- so two answers that say the same are the same
 pub said-once : (a b : Answer) → said a ≡ said b → a ≡ b
 said-once a b e = sym (unsaid-said a) ∙ ap unsaid e ∙ unsaid-said b
 

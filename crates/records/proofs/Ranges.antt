@@ -13,12 +13,15 @@ use Rattle.records.specs.Classes.{plantOwner, segmentOwner}
 use Rattle.records.specs.Lines.{ownerAllowed}
 
 -- ---- a range, both ends included
+-- a value between its ends is in it
 pub in-range : (low high v : ℕ) → low ≤ v → v ≤ high → within low high v ≡ true
 in-range low high v p q = rw (le-leb low v p, le-leb v high q) refl
 
+-- one below is not
 pub below-range : (low high v : ℕ) → v < low → within low high v ≡ false
 below-range low high v p = rw (lt-leb low v p) refl
 
+-- nor is one above
 pub above-range : (low high v : ℕ) → high < v → within low high v ≡ false
 above-range low high v p = rw (lt-leb v high p) (and-false (leb low v))
 
@@ -26,30 +29,31 @@ above-range low high v p = rw (lt-leb v high p) (and-false (leb low v))
 pub from-low : (low high v : ℕ) → low ≤ v → within low high v ≡ leb v high
 from-low low high v p = rw (le-leb low v p) refl
 
-pub at-most : (low high v : ℕ) → within low high v ≡ true → v ≤ high
-at-most low high v e = by-tests (leb low v) (leb v high) refl e
-  where
-    by-tests : (a b : Bool) → leb v high ≡ b → a && b ≡ true → v ≤ high
-    by-tests true true q h = leb-true v high q
-    by-tests true false q h = absurd (true≢false (sym h))
-    by-tests false b q h = absurd (true≢false (sym h))
-
-pub at-least : (low high v : ℕ) → within low high v ≡ true → low ≤ v
-at-least low high v e = by-test (leb low v) refl e
-  where
-    by-test : (t : Bool) → leb low v ≡ t → t && leb v high ≡ true → low ≤ v
-    by-test true q h = leb-true low v q
-    by-test false q h = absurd (true≢false (sym h))
-
 -- ---- what a test that passed says
+-- one of two passed
 either : (a b : Bool) → a || b ≡ true → (a ≡ true) ⊎ (b ≡ true)
 either true b h = inl refl
 either false b h = inr h
 
+-- both passed, and so the first
+first : (a b : Bool) → a && b ≡ true → a ≡ true
+first true b h = refl
+first false b h = absurd (true≢false (sym h))
+
+-- and the second
 second : (a b : Bool) → a && b ≡ true → b ≡ true
 second true b h = h
 second false b h = absurd (true≢false (sym h))
 
+-- a value in a range is no more than its upper end
+pub at-most : (low high v : ℕ) → within low high v ≡ true → v ≤ high
+at-most low high v e = leb-true v high (second (leb low v) (leb v high) e)
+
+-- and no less than its lower end
+pub at-least : (low high v : ℕ) → within low high v ≡ true → low ≤ v
+at-least low high v e = leb-true low v (first (leb low v) (leb v high) e)
+
+-- a next segment is one of the period's, or none
 pub next-at-most : (segments own kind next : ℕ) → nextAllowed segments own kind next ≡ true → next ≤ segments
 next-at-most segments own kind next h =
     ⊎-elim
@@ -57,6 +61,7 @@ next-at-most segments own kind next h =
     (λ b. let none : next ≡ 0 = eqb-true next 0 (second (eqb kind store) (eqb next 0) b) in omega arith)
     (either (within pipeline intermediateStorage kind && within (suc own) segments next) (eqb kind store && eqb next 0) h)
 
+-- an owner's number is no more than the most of either kind
 pub owner-at-most :
     (plants segments ownerKind owner most : ℕ) → plants ≤ most → segments ≤ most → ownerAllowed plants segments ownerKind owner ≡ true → owner ≤ most
 owner-at-most plants segments ownerKind owner most p q h =
@@ -67,27 +72,34 @@ owner-at-most plants segments ownerKind owner most p q h =
 
 -- ---- the next segment, by the kind
 module _ (segments own kind next : ℕ) where
+  -- kinds 1 to 5
   pub next-after : pipeline ≤ kind → kind ≤ intermediateStorage → nextAllowed segments own kind next ≡ within (suc own) segments next
   next-after p q =
       rw (in-range pipeline intermediateStorage kind p q, ne-eqb kind store (λ e. omega arith)) (or-false (within (suc own) segments next))
 
+  -- a store
   pub next-none : kind ≡ store → nextAllowed segments own kind next ≡ eqb next 0
   next-none e = rw (above-range pipeline intermediateStorage kind (omega arith), eq-eqb kind store e) refl
 
+  -- no kind: below the first
   pub next-below : kind < pipeline → nextAllowed segments own kind next ≡ false
   next-below p = rw (below-range pipeline intermediateStorage kind p, ne-eqb kind store (λ e. omega arith)) refl
 
+  -- or above the last
   pub next-above : intermediateStorage < kind → (kind ≡ store → ⊥) → nextAllowed segments own kind next ≡ false
   next-above p q = rw (above-range pipeline intermediateStorage kind p, ne-eqb kind store q) refl
 
 -- ---- the owner, by its kind
 module _ (plants segments ownerKind owner : ℕ) where
+  -- a plant
   pub owner-plant : ownerKind ≡ plantOwner → ownerAllowed plants segments ownerKind owner ≡ within 1 plants owner
   owner-plant e = rw (eq-eqb ownerKind plantOwner e, ne-eqb ownerKind segmentOwner (λ h. omega arith)) (or-false (within 1 plants owner))
 
+  -- a segment
   pub owner-segment : ownerKind ≡ segmentOwner → ownerAllowed plants segments ownerKind owner ≡ within 1 segments owner
   owner-segment e = rw (ne-eqb ownerKind plantOwner (λ h. omega arith), eq-eqb ownerKind segmentOwner e) refl
 
+  -- neither
   pub owner-neither : (ownerKind ≡ plantOwner → ⊥) → (ownerKind ≡ segmentOwner → ⊥) → ownerAllowed plants segments ownerKind owner ≡ false
   owner-neither p q = rw (ne-eqb ownerKind plantOwner p, ne-eqb ownerKind segmentOwner q) refl
 

@@ -11,13 +11,15 @@ use Rattle.records.specs.Fields.{Reader, return, needs, _>>=_, each, Rea
 use Rattle.records.specs.Answers.{Verdict, accepts, refuses}
 use Rattle.records.specs.Held.{filled}
 use Rattle.records.specs.Inside.{Refuses, Staged}
-use Rattle.records.proofs.Runs.{clash}
+use Rattle.records.proofs.Verdicts.{refuses-not-accepts}
 
 -- ---- one reader after another
+-- what the first came to decides: from there the second goes on, or it is refused
 abbrev pub next : {A B : Type 0} → Read A → (A → ℕ → Run → Read B) → Read B
 next (read what place rest) then = then what place rest
 next (refused refusal place) then = refused refusal place
 
+-- so goes the reading of one after another
 pub one-after :
     {A B : Type 0} (first : Reader A) (then : A → Reader B) (place : ℕ) (left : Run) →
     reads (first >>= then) place left ≡ next (reads first place left) (λ what at rest. reads (then what) at rest)
@@ -40,14 +42,17 @@ module _ {A : Type 0} where
   after done (read records place rest) = read (done ++ records) place rest
   after done (refused refusal place) = refused refusal place
 
+  -- records before others
   after-after : (a b : List A) (outcome : Read (List A)) → after a (after b outcome) ≡ after (a ++ b) outcome
   after-after a b (read records place rest) = ap (λ (l : List A). read l place rest) (sym (append-assoc a b records))
   after-after a b (refused refusal place) = refl
 
+  -- none before
   after-none : (outcome : Read (List A)) → after [] outcome ≡ outcome
   after-none (read records place rest) = refl
   after-none (refused refusal place) = refl
 
+  -- one record before those that are read behind it
   one-in-front : (what : A) (outcome : Read (List A)) → next outcome (λ records place rest. reads (return (what ∷ records)) place rest) ≡ after (what ∷ []) outcome
   unfolding reads
   one-in-front what (read records place rest) = refl
@@ -82,6 +87,7 @@ module _ {A : Type 0} where
       pub array-is : array ≡ done ++ replicate (room - p) none
       pub comes-to : reads (each one 1 count) firstPlace (run (drop start file)) ≡ after done (reads (each one (suc p) (count - p)) place (run (drop at file)))
 
+    -- before the first turn none is read
     pub going-start : Going (replicate room none) start firstPlace 0
     going-start =
         let all : room - 0 ≡ room = omega arith in
@@ -137,8 +143,8 @@ module _ {A : Type 0} where
               g .comes-to
               ∙ ap (λ (n : ℕ). after (g .done) (reads (each one (suc p) n) place (run (drop at file)))) left
               ∙ ap (after (g .done)) (each-refused one (suc p) (count - (p + 1)) place (run (drop at file)) refusal where' e);
-          counted = λ h. clash (cc);
-          filled-up = λ h. clash (cc);
+          counted = λ h. absurd (refuses-not-accepts h);
+          filled-up = λ h. absurd (refuses-not-accepts h);
         }
 
     -- all are read

@@ -6,6 +6,7 @@ use native.Mathlib.Nat.{add-zero, add-suc, suc-add, le-of-suc-le-suc, not-suc-le
 use lib.Dec.{T}
 use lib.ListN.{length, getD}
 
+-- where two tests pass together, each does
 pub both : (a b : Bool) → T (a && b) → T a × T b
 both true b t = (tt, t)
 both false b t = absurd t
@@ -16,6 +17,7 @@ module _ {A : Type 0} where
   throughout rule code [] = true
   throughout rule code (row ∷ rows) = rule code row && throughout rule (suc code) rows
 
+  -- so it passes at the row of each code
   pub at-row :
       (rule : ℕ → A → Bool) (first : ℕ) (table : List A) (other : A) → T (throughout rule first table) → (k : ℕ) → k < length table →
       T (rule (first + k) (getD table k other))

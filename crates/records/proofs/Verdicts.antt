@@ -1,13 +1,13 @@
 -- Which of the code's answers accept and which refuse, told by their tags.
 use Prim.Native.Nat.{ℕ}
-use mathlib.Core.Path.{_≡_, refl, ap}
-use mathlib.Core.Bool.{Bool, true, false, true≢false}
+use mathlib.Core.Path.{_≡_, refl}
+use mathlib.Core.Bool.{true≢false}
 use mathlib.Core.List.{List, [], _∷_}
 use denote.Enum.Declared.{tagOf}
 use types.Run.{OneOf, miss}
 use Rattle.records.specs.declared.answer.Answer.{Answer}
 use Rattle.records.specs.declared.answer.Answer.the-variants.{Accepted, Ends, NotShortest, TooLarge, Edition, Count, Plant, Segment, Line, BytesAfter, Grams, Inflow, Outflow, Emission, PlantTable, SegmentTable}
-use Rattle.records.specs.Answers.{Verdict, accepts, refuses, said}
+use Rattle.records.specs.Answers.{accepts, refuses, said}
 use Rattle.records.proofs.answer.Answer.{the-type}
 
 -- the tags of all answers but accepted
@@ -34,13 +34,8 @@ accepted (PlantTable place) tag = absurd (miss (0 ∷ []) 14 tt tag)
 accepted (SegmentTable place) tag = absurd (miss (0 ∷ []) 15 tt tag)
 
 -- a refusal does not accept
-refusing : Verdict → Bool
-refusing accepts = false
-refusing (refuses number place) = true
-
 pub refuses-not-accepts : {number place : ℕ} → refuses number place ≡ accepts → ⊥
-unfolding refusing
-refuses-not-accepts e = true≢false (ap refusing e)
+refuses-not-accepts e = true≢false (cc)
 
 -- the others refuse
 pub not-accepted : (answer : Answer) → OneOf refusals (tagOf the-type answer) → said answer ≡ accepts → ⊥

@@ -46,12 +46,15 @@ fromPlants h plants = segmentsOf h >>= fromSegments h plants
 
 -- ---- a file whose header announced so many records, the first of which starts at a byte
 module _ (file : List ℕ) (start plants segments lines : ℕ) where
+  -- what the header announced
   abbrev pub heading : Header
   heading = announced plants segments lines
 
+  -- what is left of the file behind the header
   abbrev pub left : Run
   left = run (drop start file)
 
+  -- what reading the records and the end of the file comes to
   abbrev pub outcome : Read Period
   outcome = ended (reads (records heading) headerNumbers left)
 
@@ -59,6 +62,7 @@ module _ (file : List ℕ) (start plants segments lines : ℕ) where
   module _
       (one : Plants)
       (staged-one : plantsRead file start plants segments one) where
+    -- a plant is refused
     pub plants-refused : OneOf refusals (tagOf the-type (one .answer)) → Held (nothing (one .answer)) outcome
     unfolding records
     plants-refused tag =
@@ -70,18 +74,22 @@ module _ (file : List ℕ) (start plants segments lines : ℕ) where
     module _
         (accepted-one : OneOf (0 ∷ []) (tagOf the-type (one .answer))) (two : Segments)
         (staged-two : segmentsRead file (one .next) (headerNumbers + plantFields * plants) segments two) where
+      -- the plants that were read
       abbrev all-plants : List Plant
       all-plants = take plants (one .plants)
 
+      -- the place of the first segment's first number
       abbrev place-one : ℕ
       place-one = headerNumbers + plantFields * plants
 
+      -- the segments are next
       past-plants : reads (records heading) headerNumbers left ≡ reads (fromPlants heading all-plants) place-one (run (drop (one .next) file))
       unfolding records
       past-plants =
           after-read (plantsOf heading) (fromPlants heading) headerNumbers left all-plants place-one (run (drop (one .next) file))
           (stage-read (accepted (one .answer) accepted-one) staged-one)
 
+      -- a segment is refused
       pub segments-refused : OneOf refusals (tagOf the-type (two .answer)) → Held (nothing (two .answer)) outcome
       segments-refused tag =
           refused-held (two .answer) outcome
@@ -94,18 +102,22 @@ module _ (file : List ℕ) (start plants segments lines : ℕ) where
       module _
           (accepted-two : OneOf (0 ∷ []) (tagOf the-type (two .answer))) (three : Lines)
           (staged-three : linesRead file (two .next) (headerNumbers + plantFields * plants + segmentFields * segments) lines plants segments three) where
+        -- the segments that were read
         abbrev all-segments : List Segment
         all-segments = take segments (two .segments)
 
+        -- the place of the first line's first number
         abbrev place-two : ℕ
         place-two = place-one + segmentFields * segments
 
+        -- the lines are next
         past-segments : reads (records heading) headerNumbers left ≡ reads (fromSegments heading all-plants all-segments) place-two (run (drop (two .next) file))
         past-segments =
             past-plants
             ∙ after-read (segmentsOf heading) (fromSegments heading all-plants) place-one (run (drop (one .next) file)) all-segments place-two (run (drop (two .next) file))
             (stage-read (accepted (two .answer) accepted-two) staged-two)
 
+        -- a line is refused
         pub lines-refused : OneOf refusals (tagOf the-type (three .answer)) → Held (nothing (three .answer)) outcome
         lines-refused tag =
             refused-held (three .answer) outcome
@@ -116,12 +128,15 @@ module _ (file : List ℕ) (start plants segments lines : ℕ) where
 
         -- and accepted, and then the end of the file
         module _ (accepted-three : OneOf (0 ∷ []) (tagOf the-type (three .answer))) where
+          -- the period that was read
           abbrev whole : Period
           whole = record { plants = all-plants; segments = all-segments; lines = take lines (three .lines) }
 
+          -- how many numbers it has
           abbrev pub count : ℕ
           count = headerNumbers + plantFields * plants + segmentFields * segments + lineFields * lines
 
+          -- the end of the file is next
           past-lines : outcome ≡ ended (read whole count (run (drop (three .next) file)))
           unfolding reads
           past-lines =
@@ -130,9 +145,11 @@ module _ (file : List ℕ) (start plants segments lines : ℕ) where
               ∙ after-read (linesOf heading) (fromLines all-plants all-segments) place-two (run (drop (two .next) file)) (take lines (three .lines)) count (run (drop (three .next) file))
               (stage-read (accepted (three .answer) accepted-three) staged-three))
 
+          -- bytes follow the last number
           pub bytes-left : three .next < length file → Held (nothing (BytesAfter count)) outcome
           bytes-left more = refused-held (BytesAfter count) outcome (past-lines ∙ more-left whole count file (three .next) more)
 
+          -- none do
           pub all-read :
               length file ≤ three .next →
               Held

@@ -11,6 +11,7 @@ pub data Verdict : Type 0 where
   accepts : Verdict
   refuses : (refusal place : ℕ) → Verdict
 
+-- What each answer says.
 abbrev pub said : Answer → Verdict
 said Accepted = accepts
 said (Ends place) = refuses ends place

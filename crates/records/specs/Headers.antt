@@ -12,5 +12,6 @@ abbrev pub telling : Read Periods.Header → Header
 telling (read counts place rest) = Tells (counts .plants) (counts .segments) (counts .lines)
 telling (refused refusal place) = TellsNothing
 
+-- The header of a file, whatever stands behind it.
 unfoldable pub headerOf : List ℕ → Header
 headerOf file = telling (reads Periods.header 0 (run file))

@@ -25,6 +25,7 @@ recordsOf (refused refusal place) = record { plants = []; segments = []; lines =
 unfoldable pub filled : {A : Type 0} → A → ℕ → List A → List A
 filled none room held = held ++ replicate (room - length held) none
 
+-- The answer, how many records of each kind there are, and the records in their arrays.
 pub record Held (r : Reading) (outcome : Read Period) : Type 0 where
   pub answer : said (r .answer) ≡ verdictOf outcome
   pub plant-count : r .«plant_count» ≡ length (recordsOf outcome .plants)

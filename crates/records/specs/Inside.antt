@@ -61,6 +61,7 @@ lineRead file place (ReadLine.Refused answer) outcome = Refuses (said answer) ou
 
 -- ---- a stage: so many records of one kind, read into an array
 module _ {A : Type 0} where
+  -- what reading came to, by a stage's verdict and the records that it has read
   abbrev pub staged : Verdict → List A → ℕ → Run → Read (List A)
   staged accepts records place rest = read records place rest
   staged (refuses number atPlace) records place rest = refused number atPlace

@@ -29,6 +29,7 @@ ownerAllowed plants segments ownerKind owner =
 abbrev pub factorAllowed : ℕ → Bool
 factorAllowed = upTo largestFactor
 
+-- The line of these fields.
 abbrev pub lineOf : (ownerKind owner class quantity factor : ℕ) → Line
 lineOf ownerKind owner class quantity factor =
     record { «owner_kind» = ownerKind; owner = owner; class = class; quantity = quantity; factor = factor }

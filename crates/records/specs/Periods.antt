@@ -37,6 +37,7 @@ headerNumbers = 4
 abbrev pub mostNumbers : ℕ
 mostNumbers = headerNumbers + plantFields * mostPlants + segmentFields * mostSegments + lineFields * mostLines
 
+-- The header, number by number.
 unfoldable pub header : Reader Header
 header = do
   _ ← field wrongEdition (eqb edition)

@@ -23,6 +23,7 @@ firstAllowed segments = within 1 segments
 abbrev pub fractionAllowed : ℕ → Bool
 fractionAllowed = upTo millionths
 
+-- The plant of these fields.
 abbrev pub plantOf : (exported first fraction : ℕ) → Plant
 plantOf exported first fraction = record { exported = exported; first = first; fraction = fraction }
 

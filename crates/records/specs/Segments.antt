@@ -30,6 +30,7 @@ abbrev pub nextAllowed : ℕ → ℕ → ℕ → ℕ → Bool
 nextAllowed segments own kind next =
     within pipeline intermediateStorage kind && within (suc own) segments next || eqb kind store && eqb next 0
 
+-- The segment of these fields.
 abbrev pub segmentOf : (kind outflow next : ℕ) → Segment
 segmentOf kind outflow next = record { kind = kind; outflow = outflow; next = next }
 

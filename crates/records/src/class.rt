@@ -39,6 +39,7 @@ impl Class {
     }
 }
 
+// 01's table, row by row.
 const CLASSES: [Class; Class::ROWS] = [
     // extra biomass
     Class {

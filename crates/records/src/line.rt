@@ -33,7 +33,7 @@ impl Line {
     pub const PLANT: u64 = 0;
 
     pub const SEGMENT: u64 = 1;
-
+    // The largest factor, in grams CO2e per unit.
     pub const LARGEST_FACTOR: u64 = 1_000_000_000;
 
     // Whether a period may have so many lines.
@@ -43,6 +43,7 @@ impl Line {
         count <= Line::MOST as u64
     }
 
+    // Whether there is such a kind of owner.
     pub(crate) fn owner_kind_allowed(owner_kind: u64) -> bool
         ensures { λ r. ⌜ r ≡ ownerKindAllowed «owner_kind» ⌝ }
     {
@@ -60,6 +61,7 @@ impl Line {
         }
     }
 
+    // Whether a line may have this factor.
     pub(crate) fn factor_allowed(factor: u64) -> bool
         ensures { λ r. ⌜ r ≡ factorAllowed factor ⌝ }
     {

@@ -38,6 +38,7 @@ impl Plant {
         1 <= first && first <= segments
     }
 
+    // Whether a plant may have this origin fraction.
     pub(crate) fn fraction_allowed(fraction: u64) -> bool
         ensures { λ r. ⌜ r ≡ fractionAllowed fraction ⌝ }
     {

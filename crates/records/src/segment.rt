@@ -41,6 +41,7 @@ impl Segment {
         Segment::FEWEST <= count && count <= Segment::MOST as u64
     }
 
+    // Whether there is such a kind of segment.
     pub(crate) fn kind_allowed(kind: u64) -> bool
         ensures { λ r. ⌜ r ≡ kindAllowed kind ⌝ }
     {

@@ -27,9 +27,11 @@ segments-written (accepted plants segments) before after e = written segments be
 -- ---- the call, lent two tables
 module _
     {file plants segments : List ℕ} {r : Quantified} {plants' segments' : List ℕ} (promised : Promised file plants segments r plants' segments') where
+  -- what the call answered
   abbrev answer : Answer
   answer = quantified file (length plants) (length segments)
 
+  -- so the numbers that it says it wrote are there, in either table
   pub plants-within : Counts (r .«plant_numbers») plants'
   plants-within =
       counts (r .«plant_numbers») plants' (omega (arith, promised .answers .plants, plants-written answer plants plants' (promised .plants-after)))

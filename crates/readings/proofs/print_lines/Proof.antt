@@ -1,14 +1,15 @@
 -- `readings::print_lines` is safe and ends: the index stays within the array, and each turn leaves one less. Assumes nothing.
 use Prim.Native.Nat.{_≤_, _-_}
 use borrow.Author.Needs.{needs}
+use Rattle.records.specs.Lines.{mostLines}
 use Rattle.readings.proofs.print_lines.Statement.{statement}
 use Rattle.readings.proofs.print_lines.Tie as tie
 
 abbrev Inv-loop : tie.InvT-loop
-Inv-loop reading l₀ l = l ≤ 512
+Inv-loop reading l₀ l = l ≤ mostLines
 
 abbrev μ-loop : tie.MeasureT-loop
-μ-loop reading l₀ l = 512 - l
+μ-loop reading l₀ l = mostLines - l
 
 loop-holds : tie.Need-loop-holds Inv-loop μ-loop
 loop-holds c = search needs

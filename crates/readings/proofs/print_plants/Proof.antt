@@ -1,14 +1,15 @@
 -- `readings::print_plants` is safe and ends: the index stays within the array, and each turn leaves one less. Assumes nothing.
 use Prim.Native.Nat.{_≤_, _-_}
 use borrow.Author.Needs.{needs}
+use Rattle.records.specs.Plants.{mostPlants}
 use Rattle.readings.proofs.print_plants.Statement.{statement}
 use Rattle.readings.proofs.print_plants.Tie as tie
 
 abbrev Inv-loop : tie.InvT-loop
-Inv-loop reading p₀ p = p ≤ 16
+Inv-loop reading p₀ p = p ≤ mostPlants
 
 abbrev μ-loop : tie.MeasureT-loop
-μ-loop reading p₀ p = 16 - p
+μ-loop reading p₀ p = mostPlants - p
 
 loop-holds : tie.Need-loop-holds Inv-loop μ-loop
 loop-holds c = search needs

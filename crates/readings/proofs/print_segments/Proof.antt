@@ -1,14 +1,15 @@
 -- `readings::print_segments` is safe and ends: the index stays within the array, and each turn leaves one less. Assumes nothing.
 use Prim.Native.Nat.{_≤_, _-_}
 use borrow.Author.Needs.{needs}
+use Rattle.records.specs.Segments.{mostSegments}
 use Rattle.readings.proofs.print_segments.Statement.{statement}
 use Rattle.readings.proofs.print_segments.Tie as tie
 
 abbrev Inv-loop : tie.InvT-loop
-Inv-loop reading s₀ s = s ≤ 32
+Inv-loop reading s₀ s = s ≤ mostSegments
 
 abbrev μ-loop : tie.MeasureT-loop
-μ-loop reading s₀ s = 32 - s
+μ-loop reading s₀ s = mostSegments - s
 
 loop-holds : tie.Need-loop-holds Inv-loop μ-loop
 loop-holds c = search needs

@@ -10,8 +10,9 @@ use crate::plant::Plant;
 use crate::segment::Segment;
 use number::Number;
 
+// The header, and where the first record starts; or the reason to refuse the file.
 pub(crate) enum ReadHeader {
-    // The counts of the records, and where the first of them starts.
+    // How many records of each kind there are.
     Whole {
         plants: u64,
         segments: u64,
@@ -23,6 +24,7 @@ pub(crate) enum ReadHeader {
     },
 }
 
+// Reads the header, at the start of the file.
 pub(crate) fn read_header(file: &[u8]) -> ReadHeader
     ensures { λ r. ⌜ headerRead (now (file .entry)) r (reads header 0 (run (now (file .entry)))) ⌝ }
 {

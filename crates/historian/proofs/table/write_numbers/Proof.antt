@@ -1,18 +1,25 @@
--- `historian::table::write_numbers` meets its contract: so far n numbers are written from the table's start. Assumes nothing.
+-- `historian::table::write_numbers` meets its contract: its loop writes rows of one length, the eight bytes of each number. Assumes nothing.
 use Prim.Native.Nat.{_-_}
+use mathlib.Core.Path.{refl}
+use mathlib.Core.List.{flatMap}
 use native.Mathlib.Omega.{arith}
-use Rattle.historian.proofs.Bytes.{NumbersWritten, no-number, one-number-more, all-numbers}
+use lib.ListN.{getD}
+use denote.Ref.{now}
+use Rattle.period.proofs.Writing.{Writing, writing-start, writing-length, writing-room, writing-on, writing-end}
+use Rattle.historian.specs.Tables.{numberBytes, eightBytes}
+use Rattle.historian.proofs.Bytes.{firstBytes, length-bytes, one-number-more}
 use Rattle.historian.proofs.table.write_numbers.Statement.{statement}
 use Rattle.historian.proofs.table.write_numbers.Tie as tie
 
 abbrev Inv-loop : tie.InvT-loop
-Inv-loop table₀ numbers count n₀ table n = NumbersWritten table₀ numbers count table n
+Inv-loop table₀ numbers count n₀ table n = Writing numberBytes (firstBytes numbers) count table₀ table n
 
 abbrev μ-loop : tie.MeasureT-loop
 μ-loop table₀ numbers count n₀ table n = count - n
 
 loop-holds : tie.Need-loop-holds Inv-loop μ-loop
-loop-holds c = no-number _ _ _
+unfolding flatMap
+loop-holds c = writing-start _ _ _ _ (c .before .before .pre .1) refl
 
 mul-write-number : tie.Need-mul-write-number Inv-loop μ-loop
 mul-write-number c = omega arith
@@ -24,7 +31,7 @@ shared-slice-read-write-number : tie.Need-shared-slice-read-write-number Inv-loo
 shared-slice-read-write-number c = omega arith
 
 write-number-requires : tie.Need-write-number-requires Inv-loop μ-loop
-write-number-requires c κs = omega arith
+write-number-requires c κs = writing-room (c .before .before .before .loop .inv) (omega arith)
 
 add-n : tie.Need-add-n Inv-loop μ-loop
 add-n c = omega arith
@@ -35,14 +42,17 @@ loop-less c = omega arith
 loop-again : tie.Need-loop-again Inv-loop μ-loop
 loop-again c =
     let l = c .before .before .before .before .before .before in
-    let call = c .before .before .write-number in
-    one-number-more (l .loop .inv) (l .before .before .before .pre .0) (omega arith) _ (call .kept .0) (call .ensures)
+    let numbers = now (l .before .before .before .args .numbers) in
+    let n = l .loop .n in
+    writing-on
+    (l .loop .inv) (omega arith) (eightBytes (getD numbers n 0)) _ (length-bytes numberBytes (getD numbers n 0)) (one-number-more numbers n (omega arith))
+    (c .before .before .write-number .ensures)
 
 same-length : tie.Need-same-length Inv-loop μ-loop
-same-length c = c .before .loop .inv .kept
+same-length c = writing-length (c .before .loop .inv)
 
 returns : tie.Need-returns Inv-loop μ-loop
-returns c = all-numbers (c .before .loop .inv) (c .loop-test .left)
+returns c = writing-end (c .before .loop .inv) (c .loop-test .left)
 
 pub write-numbers-spec : {M : Type 1} → statement M
 write-numbers-spec =

@@ -5,7 +5,7 @@ use native.Mathlib.Numerals.{add-one}
 use native.Mathlib.Omega.{arith}
 use Rattle.number.specs.Groups.{largest}
 use Rattle.period.specs.Inside.{chargesBy}
-use Rattle.period.proofs.Writing.{charge-fits, charge-at-most}
+use Rattle.period.proofs.Charging.{charge-fits, charge-at-most}
 use Rattle.period.proofs.rows.charges.Statement.{statement}
 use Rattle.period.proofs.rows.charges.Tie as tie
 

@@ -1,4 +1,4 @@
--- `period::rows::write_plant` meets its contract: its stores, one behind another, put the plant's row at its place. Assumes nothing.
+-- `period::rows::write_plant` meets its contract: its writes, one behind another, put the plant's row at its place. Assumes nothing.
 use native.Mathlib.Nat.{le-trans, mul-le-mul}
 use native.Mathlib.Numerals.{add-one, add-two, add-three, add-four, add-five, add-six, add-seven}
 use native.Mathlib.Omega.{arith}

@@ -1,4 +1,4 @@
--- `period::rows::write_segment` meets its contract: its stores, one behind another, put the segment's row at its place. Assumes nothing.
+-- `period::rows::write_segment` meets its contract: its writes, one behind another, put the segment's row at its place. Assumes nothing.
 use native.Mathlib.Numerals.{add-one, add-two, add-three, add-four}
 use native.Mathlib.Omega.{arith}
 use lib.ListN.{length-set}
