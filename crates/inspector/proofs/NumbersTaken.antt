@@ -1,7 +1,7 @@
 -- The numbers that the reading of a period takes are the period's: its header's, and those of its records in the order of the file.
 use Prim.Native.Nat.{ℕ, zero, suc}
 use mathlib.Core.Path.{_≡_, refl, sym, ap, _∙_}
-use mathlib.Core.Bool.{true}
+use mathlib.Core.Bool.{true, true≢false}
 use mathlib.Core.List.{List, [], _∷_, _++_, append-nil}
 use lib.ListN.{length, drop}
 use borrow.Author.Tests.{eqb-true}
@@ -12,7 +12,7 @@ use Rattle.records.specs.Fields.{Reader, return, needs, _>>=_, each, Read, read
 use Rattle.records.specs.Periods.{Period, Header, edition, header, plant, segment, line, records, period, ended, periodFile}
 use Rattle.records.specs.Headers.{telling, headerOf}
 use Rattle.records.specs.Answers.{refuses}
-use Rattle.records.proofs.Runs.{clash, number-at}
+use Rattle.records.proofs.Runs.{number-at}
 use Rattle.records.proofs.Fields.{Comes, done as all-read, goes, goes-over}
 use Rattle.records.proofs.Readers.{Came, came, comes-to}
 use Rattle.records.proofs.Whole.{after-read, after-refused}
@@ -156,4 +156,4 @@ module _ {file plants segments : List ℕ} (given : Accepted file plants segment
           let are = took (Announced h) (records-take h) (rw on at (goes-over file (records h) end at)) in
           rw (are .plants, are .segments, are .lines)
       by-header (refused refusal place) e its =
-          clash (cc (after-refused header records 0 (run file) (refuses refusal place) e, accepted-read .1))
+          absurd (true≢false (cc (after-refused header records 0 (run file) (refuses refusal place) e, accepted-read .1)))

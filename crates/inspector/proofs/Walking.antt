@@ -4,6 +4,7 @@
 -- than the whole one, but for 1 at its end.
 use Prim.Native.Nat.{ℕ, zero, suc, _+_, _≤_, _<_}
 use mathlib.Core.Path.{_≡_, refl, sym, ap, _∙_}
+use mathlib.Core.Bool.{true≢false}
 use mathlib.Core.List.{List}
 use native.Mathlib.Nat.{zero-add, add-zero}
 use native.Mathlib.Omega.{arith}
@@ -16,7 +17,6 @@ use Rattle.records.specs.Refusals.{wrongEdition, wrongLine, bytesAfter}
 use Rattle.records.specs.Run.{Run}
 use Rattle.records.specs.Fields.{Read, read, refused}
 use Rattle.records.specs.Periods.{Period, periodFile}
-use Rattle.records.proofs.Runs.{clash}
 use Rattle.accounts.specs.Order.{refusal, accepted}
 use Rattle.accounts.specs.Quantified.{afterReading, quantified}
 use Rattle.accounts.specs.Accepted.{Accepted, held}
@@ -76,8 +76,8 @@ one-from :
     {reader last last' : Inspector} {values values' : List ℕ} {found found' : ℕ} → Walks reader values last → answers last ≡ oneFault found →
     Walks reader values' last' → answers last' ≡ oneFault found' → (values ≡ values') × (last ≡ last')
 one-from there stop there stop' = (refl, refl)
-one-from there stop (step answer' more') stop' = clash (cc)
-one-from (step answer more) stop there stop' = clash (cc)
+one-from there stop (step answer' more') stop' = absurd (true≢false (cc))
+one-from (step answer more) stop there stop' = absurd (true≢false (cc))
 one-from (step {value} answer more) stop (step {value = value'} answer' more') stop' =
     let (others, end) = one-from more stop more' stop' in
     let same : value ≡ value' = cc in
@@ -251,7 +251,7 @@ module _ (file short : RefT (List ℕ)) (count : ℕ) (cut : now short ≡ take 
   cut-walks : (at : ℕ) {values : List ℕ} {last : Inspector} → Walks (atByte short at) values last → Walks (atByte file at) values (atByte file (last .at))
   cut-walks at there = there
   cut-walks at (step {last} {values} e more) =
-      let same = same-answer at (λ f. clash cc) in
+      let same = same-answer at (λ f. absurd (true≢false cc)) in
       let on : Walks (stepped (atByte file at)) values (atByte file (last .at)) = rw same (cut-walks (stepAt (now short) at .at) more) in
       step (same ∙ e) on
 

@@ -1,6 +1,7 @@
 -- The run of a file's bytes, from what the number layer reads at their front.
 use Prim.Native.Nat.{ℕ, zero, suc, _+_, _-_, _≤_}
 use mathlib.Core.Path.{_≡_, refl, sym, ap, _∙_}
+use mathlib.Core.Bool.{true≢false}
 use mathlib.Core.List.{List, [], _∷_}
 use native.Mathlib.Nat.{not-suc-le-zero}
 use native.Mathlib.Omega.{arith}
@@ -10,10 +11,6 @@ use Rattle.number.specs.Reading.{Answer, from, reading, readAt, ends}
 use Rattle.number.specs.Reading.Answer.{number as oneNumber, fault as oneFault}
 use Rattle.number.proofs.Laws.{at-place, nothing-left, size}
 use Rattle.records.specs.Run.{Run, over, fault, number, starting, runOf, run}
-
--- nothing follows from a clash of constructors but that there is none
-pub clash : {A : Type 0} → _≡_ {A = ℕ} 0 1 → A
-clash h = absurd (omega (arith, h))
 
 -- ---- a bound on the count of numbers does not matter where it is no less than the count of bytes
 enough : (n m : ℕ) (bytes : List ℕ) → length bytes ≤ n → length bytes ≤ m → runOf n bytes ≡ runOf m bytes
@@ -39,7 +36,7 @@ enough (suc n) (suc m) (b ∷ bytes) p q = by-answer (reading (b ∷ bytes)) ref
 -- ---- the run at the front of the bytes
 run-number : (bytes : List ℕ) (v n : ℕ) → reading bytes ≡ oneNumber v n → run bytes ≡ number v (run (drop n bytes))
 unfolding run runOf
-run-number [] v n e = clash (cc nothing-left)
+run-number [] v n e = absurd (true≢false (cc nothing-left))
 run-number (b ∷ bytes) v n e =
     let s = size (b ∷ bytes) v n e in
     let left : length (drop n (b ∷ bytes)) ≡ length (b ∷ bytes) - n = length-drop n (b ∷ bytes) in
@@ -67,15 +64,15 @@ unfolding run runOf
 run-on b bytes e = by-answer (reading (b ∷ bytes)) refl
   where
     by-answer : (a : Answer) → reading (b ∷ bytes) ≡ a → ⊥
-    by-answer (oneFault k) q = clash (cc (ap (λ (x : Answer). starting x (λ (next : ℕ). runOf (length bytes) (drop next (b ∷ bytes)))) q))
-    by-answer (oneNumber v n) q = clash (cc (ap (λ (x : Answer). starting x (λ (next : ℕ). runOf (length bytes) (drop next (b ∷ bytes)))) q))
+    by-answer (oneFault k) q = absurd (true≢false (cc (ap (λ (x : Answer). starting x (λ (next : ℕ). runOf (length bytes) (drop next (b ∷ bytes)))) q)))
+    by-answer (oneNumber v n) q = absurd (true≢false (cc (ap (λ (x : Answer). starting x (λ (next : ℕ). runOf (length bytes) (drop next (b ∷ bytes)))) q)))
 
 -- ---- at a place of the file: the run from there, by what the number layer reads there
 pub number-at : (file : List ℕ) (at v n : ℕ) → readAt file at ≡ oneNumber v n → run (drop at file) ≡ number v (run (drop n file))
 number-at file at v n e = by-answer (reading (drop at file)) refl
   where
     by-answer : (a : Answer) → reading (drop at file) ≡ a → run (drop at file) ≡ number v (run (drop n file))
-    by-answer (oneFault k) q = clash (cc (at-place file at, ap (from at) q))
+    by-answer (oneFault k) q = absurd (true≢false (cc (at-place file at, ap (from at) q)))
     by-answer (oneNumber w m) q =
         let here : oneNumber v n ≡ oneNumber w (at + m) = sym e ∙ at-place file at ∙ ap (from at) q in
         let value-is : w ≡ v = cc in
@@ -88,7 +85,7 @@ pub fault-at : (file : List ℕ) (at k : ℕ) → readAt file at ≡ oneFault k 
 fault-at file at k e = by-answer (reading (drop at file)) refl
   where
     by-answer : (a : Answer) → reading (drop at file) ≡ a → Faulty (run (drop at file)) k
-    by-answer (oneNumber w m) q = clash (cc (at-place file at, ap (from at) q))
+    by-answer (oneNumber w m) q = absurd (true≢false (cc (at-place file at, ap (from at) q)))
     by-answer (oneFault x) q =
         let here : oneFault k ≡ oneFault x = sym e ∙ at-place file at ∙ ap (from at) q in
         let fault-is : x ≡ k = cc in
