@@ -16,7 +16,7 @@ use Rattle.accounts.specs.Accounts.{hasBit}
 abbrev pub digit : Bool → ℕ
 digit t = cond t 1 0
 
--- it is one of two
+-- it is 0 or 1
 pub digit-below : (t : Bool) → digit t < 2
 digit-below true = omega arith
 digit-below false = omega arith

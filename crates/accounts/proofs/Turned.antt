@@ -60,7 +60,7 @@ module _ (period : Period) where
     pub turn-is : turnAt period s ≡ record { own = suc s; segment = getD (period .segments) s noSegment; standings = after s }
     turn-is = turn-at 1 (period .segments) (started period) s (suc s) noTurn (omega arith) below
 
-    pub turn-own : turnAt period s .own ≡ suc s
+    turn-own : turnAt period s .own ≡ suc s
     turn-own = ap (λ (t : Turn). t .own) turn-is
 
     pub turn-segment : turnAt period s .segment ≡ getD (period .segments) s noSegment

@@ -46,14 +46,14 @@ gives-on P Q (needs refusal allowed more) then given =
     λ value passed. gives-on (λ all. P (value ∷ all)) (λ all. Q (value ∷ all)) (more value) (λ all. then (value ∷ all)) (given value passed)
 
 -- one reader after another
-one-then :
+takes-then :
     {A B : Type 0} (P : List ℕ → A → Type 0) (Q : List ℕ → B → Type 0) (first : Reader A) (then : A → Reader B) → Gives P first →
     ((numbers : List ℕ) (what : A) → P numbers what → Gives (λ more. Q (numbers ++ more)) (then what)) → Gives Q (first >>= then)
 unfolding Gives
-one-then P Q (return what) then given rest = rest [] what given
-one-then P Q (needs refusal allowed more) then given rest =
+takes-then P Q (return what) then given rest = rest [] what given
+takes-then P Q (needs refusal allowed more) then given rest =
     λ value passed.
-    one-then (λ all. P (value ∷ all)) (λ all. Q (value ∷ all)) (more value) then (given value passed) (λ numbers. rest (value ∷ numbers))
+    takes-then (λ all. P (value ∷ all)) (λ all. Q (value ∷ all)) (more value) then (given value passed) (λ numbers. rest (value ∷ numbers))
 
 -- ---- the numbers that a reader takes are those of what it gives: of a plant, a segment and a line
 abbrev Takes : {A : Type 0} → (A → List ℕ) → Reader A → Type 0
@@ -80,14 +80,14 @@ header-takes = λ first is plants _ segments _ lines _. rw (← eqb-true edition
 abbrev Counted : {A : Type 0} → (A → List ℕ) → ℕ → List ℕ → List A → Type 0
 Counted numbers count all what = (all ≡ ofEach numbers what) × (length what ≡ count)
 
-so-many :
+takes-each :
     {A : Type 0} (numbers : A → List ℕ) (one : ℕ → Reader A) → ((own : ℕ) → Takes numbers (one own)) →
     (own count : ℕ) → Gives (Counted numbers count) (each one own count)
 unfolding Gives each ofEach
-so-many numbers one takes own zero = (refl, refl)
-so-many numbers one takes own (suc count) =
-    one-then _ _ (one own) _ (takes own) (λ front what is.
-    one-then _ _ (each one (suc own) count) _ (so-many numbers one takes (suc own) count) (λ behind rest are.
+takes-each numbers one takes own zero = (refl, refl)
+takes-each numbers one takes own (suc count) =
+    takes-then _ _ (one own) _ (takes own) (λ front what is.
+    takes-then _ _ (each one (suc own) count) _ (takes-each numbers one takes (suc own) count) (λ behind rest are.
     (rw (is, are .0) (simp append-nil), ap suc (are .1))))
 
 -- of all records: those of the plants, of the segments and of the lines, each as many as the header announces
@@ -103,20 +103,20 @@ records-take h =
     let P = h .plants in
     let S = h .segments in
     let L = h .lines in
-    one-then _ _ (each (λ own. plant S) 1 P) _ (so-many plantNumbersOf _ (λ own. plant-takes S) 1 P) (λ ps plants p.
-    one-then _ _ (each (segment S) 1 S) _ (so-many segmentNumbersOf _ (segment-takes S) 1 S) (λ ss segments s.
-    one-then _ _ (each (λ own. line P S) 1 L) _ (so-many lineNumbersOf _ (λ own. line-takes P S) 1 L) (λ ls lines l.
+    takes-then _ _ (each (λ own. plant S) 1 P) _ (takes-each plantNumbersOf _ (λ own. plant-takes S) 1 P) (λ ps plants p.
+    takes-then _ _ (each (segment S) 1 S) _ (takes-each segmentNumbersOf _ (segment-takes S) 1 S) (λ ss segments s.
+    takes-then _ _ (each (λ own. line P S) 1 L) _ (takes-each lineNumbersOf _ (λ own. line-takes P S) 1 L) (λ ls lines l.
     record { numbers = rw (p .0, s .0, l .0) (simp append-nil); plants = p .1; segments = s .1; lines = l .1 })))
 
 -- of the whole period
 period-takes : Takes numbersOf period
 unfolding period numbersOf
 period-takes =
-    one-then _ _ header records header-takes (λ front h is.
+    takes-then _ _ header records header-takes (λ front h is.
     gives-on _ _ (records h) (λ all what are. rw (is, are .numbers, are .plants, are .segments, are .lines) refl) (records-take h))
 
 -- so where reading comes to a period, the numbers that it took are the period's
-pub numbers-taken :
+numbers-taken :
     {what : Period} {place : ℕ} {rest : Run} (file : List ℕ) → reads period 0 (run file) ≡ read what place rest → consumed file ≡ numbersOf what
 unfolding consumed
 numbers-taken file e = took _ period-takes (rw e at (goes-over file period 0 0))

@@ -31,7 +31,7 @@ pub one-step :
 one-step reader r s after after' p move q move' = (said-once r s (p ∙ sym q), move ∙ sym move')
 
 -- `step_at`: what a step says determines the step
-pub said-of-step-once : (r s : Step) → saidOfStep r ≡ saidOfStep s → r ≡ s
+said-of-step-once : (r s : Step) → saidOfStep r ≡ saidOfStep s → r ≡ s
 said-of-step-once r s e =
     let found = said-once (r .found) (s .found) (ap (λ (x : Stepped). x .answer) e) in
     let at = ap (λ (x : Stepped). x .at) e in

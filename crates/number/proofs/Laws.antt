@@ -70,8 +70,8 @@ pub faults : (file : List ℕ) (at k : ℕ) → readAt file at ≡ fault k → (
 faults file at k e = front-faults (drop at file) k (from-fault at (reading (drop at file)) k (sym (at-place file at) ∙ e))
 
 -- ---- what comes before the number does not matter
--- counted from one place, and that from another
-pub from-from : (m n : ℕ) (a : Answer) → from m (from n a) ≡ from (m + n) a
+-- counting on from n and then from m is counting on from m + n
+from-from : (m n : ℕ) (a : Answer) → from m (from n a) ≡ from (m + n) a
 from-from m n (number v k) = ap (number v) (sym (add-assoc m n k))
 from-from m n (fault k) = refl
 

@@ -107,7 +107,7 @@ reads-back-at p v t h =
     ∙ ap (from (length p)) (reads-back v t h)
 
 -- ---- what stands there is what is written
--- groups that do not end in a zero group have a value
+-- groups that do not end in a zero group have a value above 0
 positive : (gs : List ℕ) → (last gs ≡ 0 → ⊥) → 0 < value gs
 unfolding value
 positive [] h = absurd (h refl)

@@ -3,14 +3,14 @@ ghost use mathlib.Core.Path.{_≡_};
 ghost use Prim.Native.Nat.{_+_, _-_, _/_, _^_, _<_};
 ghost use Rattle.accounts.specs.Emissions.{roundedUp};
 
-// A quotient, rounded down.
+// A quotient, rounded down; 0 where the divisor is.
 pub(crate) fn rounded_down(n: u64, d: u64) -> u64
     ensures { λ r. ⌜ r ≡ n / d ⌝ }
 {
     if d == 0 { 0 } else { n / d }
 }
 
-// A quotient, rounded up.
+// A quotient, rounded up; 0 where the divisor is.
 pub(crate) fn rounded_up(n: u64, d: u64) -> u64
     requires { ⌜ n + (d - 1) < 2 ^ 64 ⌝ }
     ensures { λ r. ⌜ r ≡ roundedUp n d ⌝ }

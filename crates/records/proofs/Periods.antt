@@ -47,7 +47,7 @@ pub data RecordField (h : Header) : (place refusal : ℕ) → Type 0 where
   segment-field : {place : ℕ} → (segmentsFrom h ≤ place) × (place < linesFrom h) → RecordField h place wrongSegment
   line-field : {place : ℕ} → (linesFrom h ≤ place) × (place < linesEnd h) → RecordField h place wrongLine
 
--- a field of the whole period: its refusal is one of 4 to 8
+-- a field of the whole period, wherever it stands: its refusal is one of 4 to 8
 abbrev pub PeriodField : (place refusal : ℕ) → Type 0
 PeriodField place refusal = (wrongEdition ≤ refusal) × (refusal ≤ wrongLine)
 

@@ -1,4 +1,5 @@
--- What is carried along the reading of a file, from field to field: one logic for all that is said of readers of fields.
+-- What is carried along the reading of a file, from field to field: what each field is and where, what is known in the end, and the place and
+-- the byte there. Not the numbers that were taken, nor the tests that are left: these are told by the whole of a reader.
 use Prim.Native.Nat.{ℕ, zero, suc, _+_, _≤_, _<_}
 use mathlib.Core.Path.{_≡_, refl, ap}
 use mathlib.Core.Bool.{Bool, true}
