@@ -17,7 +17,8 @@
 #include <stddef.h>
 #include <stdint.h>
 
-/* The version of this header and of the archive that it goes with. The first part changes where a caller has to. */
+/* The version of this header and of the archive that it goes with. The first part changes where callers have to change
+   their code. */
 #define STEEPLECUFF_VERSION "1.0.0"
 
 #ifdef __cplusplus

@@ -1,6 +1,8 @@
 /* threads: calls steeplecuff_quantify from several threads at the same time, on one file, each with tables and a place of
    its own and with a small stack, and checks that every call leaves what a call alone leaves. Ends with 0 where it does. */
+#define _POSIX_C_SOURCE 200809L /* for the barrier */
 #include <pthread.h>
+#include <stdbool.h>
 #include <stdio.h>
 #include <string.h>
 
@@ -19,6 +21,7 @@ struct left {
 static uint8_t file[WHOLE_PERIOD_NUMBERS * MOST_NUMBER_BYTES];
 static size_t file_len;
 static struct left alone, together[THREADS];
+static pthread_barrier_t start;
 
 /* Makes one call on tables of zeros. */
 static void call(struct left *left)
@@ -28,13 +31,21 @@ static void call(struct left *left)
                                         sizeof left->segments, &left->place);
 }
 
-/* One thread's calls: answers NULL where all of them leave what a call alone left. */
+static bool same(const struct left *left, const struct left *right)
+{
+    return left->answer == right->answer && left->place == right->place &&
+           memcmp(left->plants, right->plants, sizeof left->plants) == 0 &&
+           memcmp(left->segments, right->segments, sizeof left->segments) == 0;
+}
+
+/* One thread's calls, begun when all threads are there: answers NULL where all of them leave what a call alone left. */
 static void *call_often(void *of_thread)
 {
     struct left *left = of_thread;
+    pthread_barrier_wait(&start);
     for (int i = 0; i < CALLS; i++) {
         call(left);
-        if (memcmp(left, &alone, sizeof alone) != 0)
+        if (!same(left, &alone))
             return left;
     }
     return NULL;
@@ -48,8 +59,8 @@ int main(void)
 
     file_len = put_numbers(file, whole_period, WHOLE_PERIOD_NUMBERS);
     call(&alone);
-    if (alone.answer != STEEPLECUFF_ACCEPTED || pthread_attr_init(&small_stack) != 0 ||
-        pthread_attr_setstacksize(&small_stack, STACK_BYTES) != 0) {
+    if (alone.answer != STEEPLECUFF_ACCEPTED || pthread_barrier_init(&start, NULL, THREADS) != 0 ||
+        pthread_attr_init(&small_stack) != 0 || pthread_attr_setstacksize(&small_stack, STACK_BYTES) != 0) {
         puts("the threads could not be prepared");
         return 1;
     }
