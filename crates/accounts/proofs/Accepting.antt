@@ -80,7 +80,7 @@ charged-somewhere (suc emission) zero e = absurd (true≢false (sym both ∙ e))
     both = rw (lt-ltb 0 (suc emission) (omega arith), eq-eqb 0 0 refl) refl
 charged-somewhere (suc emission) (suc inflow) e = inr (omega arith)
 
--- so it is with each account
+-- where no test of the segments fails, each account is sound
 sound-each :
     (accounts : List Account) → NoneFails (segmentTests accounts) →
     (index : ℕ) (none : Account) → index < length accounts → Sound (getD accounts index none)

@@ -21,7 +21,7 @@ unfoldable FromLeast : ℕ → List Test → Type 0
 FromLeast least [] = Unit {0}
 FromLeast least (test ∷ tests) = (least ≤ test .number) × FromLeast least tests
 
--- nor has the first that fails
+-- the first that fails has no number below it either
 first-from : {least number place : ℕ} {tests : List Test} → FirstFails tests number place → FromLeast least tests → least ≤ number
 unfolding FromLeast
 first-from (here h) each = each .0

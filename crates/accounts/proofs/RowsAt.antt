@@ -109,7 +109,7 @@ module _ {period : Period} {plants segments : List ℕ} (means : Means period pl
   plants-long =
       ap length (means .plants-are) ∙ plant-rows-long (period .lines) (accountsOf period) 0 (period .plants) (stores period) (stores-length period)
 
-  -- and so many the segments'
+  -- the segments' rows have so many numbers together
   pub segments-long : length segments ≡ segmentNumbers * length (period .segments)
   segments-long =
       ap length (means .segments-are) ∙ segment-rows-long (accountsOf period) ∙ ap (λ (n : ℕ). segmentNumbers * n) (accounts-length period)

@@ -57,7 +57,7 @@ value-from file k (suc i) is (step answer more) h =
     let next : k + suc i ≡ suc k + i = omega arith in
     rw next (value-from file (suc k) i (ap stepped is ∙ steps-on file k (rw is at answer)) more (omega (arith, h)))
 
--- so they are from the start on
+-- the values of a walk from the start are those of the file's numbers
 pub walked-value :
     {file : RefT (List ℕ)} {values : List ℕ} {last : Inspector} → Walks (begun file) values last → (k : ℕ) → k < length values →
     valueAt (now file) k ≡ getD values k 0
@@ -83,7 +83,7 @@ one-from (step {value} answer more) stop (step {value = value'} answer' more') s
     let same : value ≡ value' = cc in
     (rw (same, others), end)
 
--- so it is from the start on
+-- a walk from the start that stops is the only one
 pub one-walk :
     {file : RefT (List ℕ)} {values values' : List ℕ} {refusal refusal' at at' : ℕ} → Stops file values refusal at → Stops file values' refusal' at' →
     (values ≡ values') × (refusal ≡ refusal') × (at ≡ at')
@@ -259,7 +259,7 @@ module _ (file short : RefT (List ℕ)) (count : ℕ) (cut : now short ≡ take 
   pub cut-walked : {values : List ℕ} → Walked short values → Walked file values
   cut-walked walked = record { last = atByte file (walked .last .at); walks = cut-walks 0 (walked .walks) }
 
-  -- and so is a fault, but for 1
+  -- and a fault there is the file's own, but for 1
   pub cut-fault :
       {values : List ℕ} {refusal at : ℕ} → (refusal ≡ ends → ⊥) → Stops short values refusal at → Stops file values refusal at
   cut-fault {refusal} {at} not-ends stops =

@@ -76,7 +76,7 @@ formed-fault groups k a (is-padded p) e = let k-is : k ≡ notShortest = cc in o
 formed-fault groups k a (is-large p h) e = let k-is : k ≡ tooLarge = cc in omega arith
 formed-fault groups k a (is-number p h) e = absurd (never (sym e))
 
--- so is that of what was gathered, whole or not
+-- a fault of what was gathered, whole or not, is one of three
 pub answer-fault : (g : Gathering) (k : ℕ) → answer g ≡ fault k → (ends ≤ k) × (k ≤ tooLarge)
 answer-fault (whole groups) k e = let b = formed-fault groups k (formed groups) (formed-as groups) e in omega arith
 answer-fault cut k e = let k-is : k ≡ ends = cc in omega arith

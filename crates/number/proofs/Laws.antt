@@ -34,7 +34,7 @@ pub record Size (bytes : List ℕ) (v n : ℕ) : Type 0 where
   pub inside : n ≤ length bytes
   pub small : v ≤ largest
 
--- so it is with every number at the front of some bytes
+-- every number at the front of some bytes has that size
 pub size : (bytes : List ℕ) (v n : ℕ) → reading bytes ≡ number v n → Size bytes v n
 size bytes v n e =
     let r = reads bytes v n e in
@@ -53,7 +53,7 @@ pub record Bounds (file : List ℕ) (at v n : ℕ) : Type 0 where
   pub inside : n ≤ length file
   pub small : v ≤ largest
 
--- so it is with every number at a place
+-- every number at a place has these bounds
 pub bounds : (file : List ℕ) (at v n : ℕ) → readAt file at ≡ number v n → Bounds file at v n
 bounds file at v n e =
     let (m, q, next-is) = at-front file at v n e in

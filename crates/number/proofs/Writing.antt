@@ -76,7 +76,7 @@ more-allowed : (k v : ℕ) → radix ≤ v → v < 2 ^ (groupBits * suc k) → 0
 more-allowed zero v h b = absurd (omega arith)
 more-allowed (suc k) v h b = omega arith
 
--- so it is with every number that so many groups can hold
+-- a number that so many groups can hold stands written in them
 stands-written : (k v : ℕ) (t : List ℕ) → 0 < k → v < 2 ^ (groupBits * k) → Written k v t
 stands-written zero v t h b = absurd (omega arith)
 stands-written (suc k) v t h b = by-size (decLt v radix) (stands-written k (v / radix) t)
@@ -140,7 +140,7 @@ shortest-form gs p = by-length (decLe (length gs) 1)
     by-length (yes one) = inl one
     by-length (no several) = inr (λ e. true≢false (sym (padded-zero gs (omega arith) e) ∙ p))
 
--- so are the bytes of a number at the front of others
+-- the bytes of a number at the front of others are what is written
 front-form : (bytes : List ℕ) (v m : ℕ) → Reads bytes v m → AreBytes bytes → take m bytes ≡ written v
 unfolding written
 front-form bytes v m r all =

@@ -72,7 +72,7 @@ module _ (plants segments plantTable segmentTable : ℕ) where
   segments-refused enough short =
       λ rest answer. rw (le-ltb plantTable (plantNumbers * plants) enough, lt-ltb segmentTable (segmentNumbers * segments) short) refl
 
-  -- neither is
+  -- neither table is too short
   pub tables-pass : plantNumbers * plants ≤ plantTable → segmentNumbers * segments ≤ segmentTable → Passes accepts table-tests
   unfolding tested
   tables-pass enough enough' =

@@ -149,7 +149,7 @@ module _ (file : List ℕ) (start plants segments lines : ℕ) where
           pub bytes-left : three .next < length file → Held (nothing (BytesAfter count)) outcome
           bytes-left more = refused-held (BytesAfter count) outcome (past-lines ∙ more-left whole count file (three .next) more)
 
-          -- none do
+          -- no bytes follow it
           pub all-read :
               length file ≤ three .next →
               Held

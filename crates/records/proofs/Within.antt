@@ -60,7 +60,7 @@ held-within h what holds =
       classes = each-on (λ own one both. both .1) 1 (what .lines) (holds .lines);
     }
 
--- so is what a file that was read holds
+-- what a file that was read holds is within its limits
 pub read-within : (file : List ℕ) (period : Period) (place : ℕ) (rest : Run) → periodFile file ≡ read period place rest → Within period
 unfolding periodFile
 read-within file held place rest e = within (rw e at (at-end (comes-to (period-along file))))
