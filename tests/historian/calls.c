@@ -1,6 +1,6 @@
 /* calls [guarded]: calls steeplecuff_quantify as the historian does and checks every byte of what comes back: the whole
-   period of 01, its proved cases, and tables of many lengths. Prints a line for each call, begun before it is made, so
-   that the last line tells where the program died; then 'N passed, M failed'. */
+   period of 01, its proved cases, tables of many lengths, and the longest file. Prints a line for each call, begun before
+   it is made, so that the last line tells where the program died; then 'N passed, M failed'. */
 #include <inttypes.h>
 #include <stdio.h>
 #include <string.h>
@@ -196,12 +196,46 @@ static void check_lengths(void)
     check("one byte more, both tables empty", (struct bytes){file, len + EXTRA_BYTES}, (struct lengths){0, 0}, bytes_after);
 }
 
+/* The longest file, every count and every field at its largest: its length is the header's limit. It is read to its end and
+   refused for the grams of its first line; with a byte more or less it is refused for that. */
+static void check_longest(void)
+{
+    enum { PLANT = 3, SEGMENT = 3, LINE = 5, HEADER = 4 }; /* numbers of a record */
+    enum {
+        NUMBERS = HEADER + PLANT * STEEPLECUFF_MOST_PLANTS + SEGMENT * STEEPLECUFF_MOST_SEGMENTS + LINE * STEEPLECUFF_MOST_LINES
+    };
+    static const uint32_t header[HEADER] = {1, STEEPLECUFF_MOST_PLANTS, STEEPLECUFF_MOST_SEGMENTS, STEEPLECUFF_MOST_LINES};
+    static const uint32_t plant[PLANT] = {4000000000, STEEPLECUFF_MOST_SEGMENTS, 1000000};
+    static const uint32_t store[SEGMENT] = {6, 4000000000, 0};
+    static const uint32_t line[LINE] = {1, STEEPLECUFF_MOST_SEGMENTS, 7, 4000000000, 1000000000};
+    static uint8_t file[NUMBERS * MOST_NUMBER_BYTES + EXTRA_BYTES];
+
+    size_t len = put_numbers(file, header, HEADER);
+    for (int i = 0; i < STEEPLECUFF_MOST_PLANTS; i++)
+        len += put_numbers(file + len, plant, PLANT);
+    for (int i = 0; i < STEEPLECUFF_MOST_SEGMENTS; i++)
+        len += put_numbers(file + len, store, SEGMENT);
+    for (int i = 0; i < STEEPLECUFF_MOST_LINES; i++)
+        len += put_numbers(file + len, line, LINE);
+    if (len == STEEPLECUFF_MOST_FILE_BYTES) {
+        puts("the longest file has the header's length: passed");
+        passed++;
+    } else {
+        printf("the longest file has the header's length: FAILED, it has %zu bytes\n", len);
+        failed++;
+    }
+    check("the longest file", (struct bytes){file, len}, exact, (struct expected){10, 1, NULL});
+    check("the longest file less a byte", (struct bytes){file, len - 1}, exact, (struct expected){1, NUMBERS - 1, NULL});
+    check("the longest file and one byte more", (struct bytes){file, len + EXTRA_BYTES}, exact, (struct expected){9, NUMBERS, NULL});
+}
+
 int main(int argc, char **argv)
 {
     call = one_call_on(block_kind_asked(argc, argv));
     check_bytes();
     check_edits();
     check_lengths();
+    check_longest();
     printf("%u passed, %u failed\n", passed, failed);
     return failed == 0 ? 0 : 1;
 }
