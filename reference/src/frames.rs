@@ -83,7 +83,8 @@ pub fn split(input: &[u8], length: usize) -> Option<(&[u8], &[u8])> {
 mod tests {
     use super::*;
     use crate::numbers::question::NumberAt;
-    use crate::periods::historian::call::{HistorianCall, TableBytes};
+    use crate::periods::historian::call::HistorianCall;
+    use crate::periods::historian::table_bytes::TableBytes;
     use crate::periods::question::PeriodFile;
     use std::fmt::Debug;
 
@@ -91,11 +92,11 @@ mod tests {
         vec![
             NumberAt {
                 file: vec![0xAC, 0x02],
-                place: 0x0102_0304_0506_0708,
+                offset: 0x0102_0304_0506_0708,
             },
             NumberAt {
                 file: vec![],
-                place: u64::MAX,
+                offset: u64::MAX,
             },
         ]
     }

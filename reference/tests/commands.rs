@@ -263,7 +263,7 @@ fn cases_of_periods_are_written_one_to_a_line() {
     assert_eq!(lines.len(), 40);
     assert!(lines[0].starts_with("16 10 01020202904E01C0843D"));
     assert!(lines[0].ends_with(
-        " A 10000 9931 69 9931 879 9052 9 0 5001 4968 33 4471 90 4381 4 0 \
+        " A 10000 9931 69 9931 879 9052 9 0 5001 4968 33 4471 90 4381 4 0 | \
          15001 14900 101 268 3 14900 14899 1 0 3"
     ));
     assert_eq!(lines[1], "16 10 - R 1 0");

@@ -67,7 +67,7 @@ mod tests {
         ];
         let asked = files.map(|file| NumberAt {
             file: file.to_vec(),
-            place: 0,
+            offset: 0,
         });
         asked.to_vec()
     }
@@ -97,8 +97,8 @@ mod tests {
         assert_eq!(
             lines,
             [
-                r#"  case 1: bytes [AC 02], place 0: expected "N 300 2", came "N 300 1""#,
-                r#"  case 3: bytes [80 00], place 0: expected "R 2 0", came "R 3 0""#,
+                r#"  case 1: bytes [AC 02], offset 0: expected "N 300 2", came "N 300 1""#,
+                r#"  case 3: bytes [80 00], offset 0: expected "R 2 0", came "R 3 0""#,
             ]
         );
     }
@@ -110,7 +110,7 @@ mod tests {
         assert_eq!(
             lines,
             [
-                r#"  case 4: bytes [81 D0 AC F3 0E], place 0: expected "R 3 0", came no line"#,
+                r#"  case 4: bytes [81 D0 AC F3 0E], offset 0: expected "R 3 0", came no line"#,
                 "  too few answers: 3 for 4 cases",
             ]
         );

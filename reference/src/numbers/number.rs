@@ -11,16 +11,16 @@ pub const MOST_GROUPS: usize = 5;
 /// The largest value a number may have.
 pub const LIMIT: u64 = 4_000_000_000;
 
-/// What stands at a place of a file.
+/// What stands at an offset of a file.
 #[derive(Clone, Copy, Debug, PartialEq, Eq)]
 pub enum Reading {
-    /// A number, and the place just past its last byte.
+    /// A number, and the offset just past its last byte.
     Number { value: u64, next: u64 },
     /// No number, and why.
     Refused(Refusal),
 }
 
-/// Why no number can be read at a place.
+/// Why no number can be read at an offset.
 #[derive(Clone, Copy, Debug, PartialEq, Eq)]
 pub enum Refusal {
     /// The file has no byte where a group is needed.
@@ -42,10 +42,10 @@ impl Refusal {
     }
 }
 
-/// Reads the number at `place`, byte by byte, so that the first fault met is the one answered.
-pub fn read_number(file: &[u8], place: u64) -> Reading {
+/// Reads the number at `offset`, byte by byte, so that the first fault met is the one answered.
+pub fn read_number(file: &[u8], offset: u64) -> Reading {
     let mut value = 0;
-    for (index, &byte) in bytes_from(file, place).iter().enumerate() {
+    for (index, &byte) in bytes_from(file, offset).iter().enumerate() {
         let group = byte & GROUP_MASK;
         value += u64::from(group) << (GROUP_BITS * index);
 
@@ -63,15 +63,15 @@ pub fn read_number(file: &[u8], place: u64) -> Reading {
         if value > LIMIT {
             return Reading::Refused(Refusal::TooLarge);
         }
-        let next = place + groups as u64;
+        let next = offset + groups as u64;
         return Reading::Number { value, next };
     }
     Reading::Refused(Refusal::FileEnds)
 }
 
-/// The bytes of the file from `place` on: none when the place is at the end or past it.
-fn bytes_from(file: &[u8], place: u64) -> &[u8] {
-    usize::try_from(place)
+/// The bytes of the file from `offset` on: none when the offset is at the end or past it.
+fn bytes_from(file: &[u8], offset: u64) -> &[u8] {
+    usize::try_from(offset)
         .ok()
         .and_then(|start| file.get(start..))
         .unwrap_or_default()
@@ -188,7 +188,7 @@ mod tests {
     }
 
     #[test]
-    fn place_decides_where_reading_starts() {
+    fn offset_decides_where_reading_starts() {
         let file = [0x80, 0x80, 0xAC, 0x02, 0xFF];
         assert_eq!(read_number(&file, 2), number(300, 4));
         assert_eq!(read_number(&file, 3), number(2, 4));
@@ -196,10 +196,10 @@ mod tests {
     }
 
     #[test]
-    fn place_past_the_end_finds_no_number() {
+    fn offset_past_the_end_finds_no_number() {
         let file = [0x01; 8];
-        for place in [8, 9, 1 << 32, (1 << 32) + 1, 1 << 63, u64::MAX] {
-            assert_eq!(read_number(&file, place), FILE_ENDS, "place {place}");
+        for offset in [8, 9, 1 << 32, (1 << 32) + 1, 1 << 63, u64::MAX] {
+            assert_eq!(read_number(&file, offset), FILE_ENDS, "offset {offset}");
         }
     }
 

@@ -1,4 +1,4 @@
-//! The question about one number, put as the asked place (8 bytes, least
+//! The question about one number, put as the asked offset (8 bytes, least
 //! significant first) and the file.
 
 use super::number::{read_number, Reading};
@@ -6,14 +6,14 @@ use crate::answer_line::AnswerLine;
 use crate::frames::{first_file, split, write_file};
 use crate::questions::{hex, Question};
 
-/// Bytes of the asked place.
-const PLACE_BYTES: usize = 8;
+/// Bytes of the asked offset.
+const OFFSET_BYTES: usize = 8;
 
-/// One question: what stands at this place of this file?
+/// One question: what stands at this offset of this file?
 #[derive(Clone, Debug, PartialEq, Eq)]
 pub struct NumberAt {
     pub file: Vec<u8>,
-    pub place: u64,
+    pub offset: u64,
 }
 
 impl Question for NumberAt {
@@ -22,27 +22,27 @@ impl Question for NumberAt {
     const LABELS: &'static [&'static str] = &["N", "R1", "R2", "R3"];
 
     fn write_frame(&self, frames: &mut Vec<u8>) {
-        frames.extend(self.place.to_le_bytes());
+        frames.extend(self.offset.to_le_bytes());
         write_file(&self.file, frames);
     }
 
     fn first_frame(input: &[u8]) -> Option<(Self, &[u8])> {
-        let (place, rest) = split(input, PLACE_BYTES)?;
-        let place = u64::from_le_bytes(place.try_into().ok()?);
+        let (offset, rest) = split(input, OFFSET_BYTES)?;
+        let offset = u64::from_le_bytes(offset.try_into().ok()?);
         let (file, rest) = first_file(rest)?;
         let file = file.to_vec();
-        Some((NumberAt { file, place }, rest))
+        Some((NumberAt { file, offset }, rest))
     }
 
     fn answer(&self) -> AnswerLine {
-        AnswerLine(match read_number(&self.file, self.place) {
+        AnswerLine(match read_number(&self.file, self.offset) {
             Reading::Number { value, next } => format!("N {value} {next}\n"),
-            Reading::Refused(refusal) => format!("R {} {}\n", refusal.number(), self.place),
+            Reading::Refused(refusal) => format!("R {} {}\n", refusal.number(), self.offset),
         })
     }
 
     fn in_words(&self) -> String {
-        format!("bytes [{}], place {}", hex(&self.file, " "), self.place)
+        format!("bytes [{}], offset {}", hex(&self.file, " "), self.offset)
     }
 }
 
@@ -50,9 +50,9 @@ impl Question for NumberAt {
 mod tests {
     use super::*;
 
-    fn asked(file: &[u8], place: u64) -> NumberAt {
+    fn asked(file: &[u8], offset: u64) -> NumberAt {
         let file = file.to_vec();
-        NumberAt { file, place }
+        NumberAt { file, offset }
     }
 
     #[test]
@@ -66,7 +66,10 @@ mod tests {
     }
 
     #[test]
-    fn words_hold_bytes_and_place() {
-        assert_eq!(asked(&[0xAC, 0x02], 1).in_words(), "bytes [AC 02], place 1");
+    fn words_hold_bytes_and_offset() {
+        assert_eq!(
+            asked(&[0xAC, 0x02], 1).in_words(),
+            "bytes [AC 02], offset 1"
+        );
     }
 }

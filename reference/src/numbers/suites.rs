@@ -21,8 +21,8 @@ pub fn number_suites() -> Vec<Suite<NumberAt>> {
             values_at_edges(),
         ),
         Suite::new(
-            "numbers, places in the file and far past it",
-            places_near_and_far(),
+            "numbers, offsets in the file and far past it",
+            offsets_near_and_far(),
         ),
         Suite::new(
             "numbers, seeded whole and damaged",
@@ -43,7 +43,7 @@ fn edge_bytes() -> Vec<u8> {
 
 /// The case that asks at the front of a file.
 fn asked_at_front(file: Vec<u8>) -> NumberAt {
-    NumberAt { file, place: 0 }
+    NumberAt { file, offset: 0 }
 }
 
 // Suite: all of one and two bytes.
@@ -151,7 +151,7 @@ fn values_at_edges() -> Vec<NumberAt> {
             for after in BYTES_AFTER {
                 cases.push(NumberAt {
                     file: [before, &form, after].concat(),
-                    place: before.len() as u64,
+                    offset: before.len() as u64,
                 });
             }
         }
@@ -178,17 +178,17 @@ fn forms_of(value: u64) -> Vec<Vec<u8>> {
     padded.chain(cut).chain([shortest.clone()]).collect()
 }
 
-// Suite: places in the file and far past it.
+// Suite: offsets in the file and far past it.
 
-/// The longest file whose every place is asked for.
-const LONGEST_PLACED_FILE: usize = 8;
-/// How far past the end of a file the near places go.
+/// The longest file whose every offset is asked for.
+const LONGEST_ASKED_FILE: usize = 8;
+/// How far past the end of a file the near offsets go.
 const NEAR_PAST_END: usize = 3;
 /// Places at which a narrower or a signed number would turn over.
-const TURNING_PLACES: [u64; 5] = [1 << 8, 1 << 16, 1 << 31, 1 << 32, 1 << 63];
-/// How far below and above a turning place the far places go: so far that a
-/// place turned over would fall on every byte of the file.
-const AROUND_A_TURN: u64 = LONGEST_PLACED_FILE as u64;
+const TURNING_OFFSETS: [u64; 5] = [1 << 8, 1 << 16, 1 << 31, 1 << 32, 1 << 63];
+/// How far below and above a turning offset the far offsets go: so far that an
+/// offset turned over would fall on every byte of the file.
+const AROUND_A_TURN: u64 = LONGEST_ASKED_FILE as u64;
 /// Bytes repeated to fill a file, so that every answer is met.
 const REPEATED: [&[u8]; 10] = [
     &[0x00],
@@ -205,44 +205,44 @@ const REPEATED: [&[u8]; 10] = [
 /// How many seeded files of each length are asked besides.
 const SEEDED_FILES: usize = 200;
 /// The seed of those files.
-const SEED_OF_PLACES: u64 = 0x5EED_0001;
+const SEED_OF_OFFSETS: u64 = 0x5EED_0001;
 
-/// Far places are asked of the repeated bytes only: no byte of the file should
+/// Far offsets are asked of the repeated bytes only: no byte of the file should
 /// matter there, and these show it when one does.
-fn places_near_and_far() -> Vec<NumberAt> {
-    let mut seeded = Seeded::new(SEED_OF_PLACES);
+fn offsets_near_and_far() -> Vec<NumberAt> {
+    let mut seeded = Seeded::new(SEED_OF_OFFSETS);
     let mut cases = Vec::new();
-    for length in 0..=LONGEST_PLACED_FILE {
+    for length in 0..=LONGEST_ASKED_FILE {
         for run in REPEATED {
             let file: Vec<u8> = run.iter().copied().cycle().take(length).collect();
-            cases.extend(asked_at_each(&file, near_places(length)));
-            cases.extend(asked_at_each(&file, far_places()));
+            cases.extend(asked_at_each(&file, near_offsets(length)));
+            cases.extend(asked_at_each(&file, far_offsets()));
         }
         for _ in 0..SEEDED_FILES {
             let file = seeded_bytes(&mut seeded, length);
-            cases.extend(asked_at_each(&file, near_places(length)));
+            cases.extend(asked_at_each(&file, near_offsets(length)));
         }
     }
     cases
 }
 
-/// The cases that ask at each of the places of one file.
-fn asked_at_each(file: &[u8], places: impl Iterator<Item = u64>) -> Vec<NumberAt> {
-    let asked_at = |place| NumberAt {
+/// The cases that ask at each of the offsets of one file.
+fn asked_at_each(file: &[u8], offsets: impl Iterator<Item = u64>) -> Vec<NumberAt> {
+    let asked_at = |offset| NumberAt {
         file: file.to_vec(),
-        place,
+        offset,
     };
-    places.map(asked_at).collect()
+    offsets.map(asked_at).collect()
 }
 
-/// Every place of a file, its end, and some places past it.
-fn near_places(length: usize) -> impl Iterator<Item = u64> {
+/// Every offset of a file, its end, and some offsets past it.
+fn near_offsets(length: usize) -> impl Iterator<Item = u64> {
     0..=(length + NEAR_PAST_END) as u64
 }
 
-/// The places around each turn, and the last of all 64-bit numbers.
-fn far_places() -> impl Iterator<Item = u64> {
-    let turns = TURNING_PLACES.into_iter();
+/// The offsets around each turn, and the last of all 64-bit numbers.
+fn far_offsets() -> impl Iterator<Item = u64> {
+    let turns = TURNING_OFFSETS.into_iter();
     let around_turns = turns.flat_map(|turn| turn - AROUND_A_TURN..=turn + AROUND_A_TURN);
     around_turns.chain(u64::MAX - AROUND_A_TURN..=u64::MAX)
 }
@@ -259,8 +259,8 @@ const LONGEST_FILE: usize = 40;
 const LONGEST_LONG_FILE: usize = 4_000;
 /// One case in this many has a long file.
 const CASES_TO_A_LONG_ONE: usize = 500;
-/// One case in this many asks at any place, the others where the number starts.
-const CASES_TO_ANY_PLACE: usize = 5;
+/// One case in this many asks at any offset, the others where the number starts.
+const CASES_TO_ANY_OFFSET: usize = 5;
 /// One seeded byte in this many is an edge byte, the others are any byte.
 const BYTES_TO_AN_EDGE: usize = 4;
 
@@ -309,14 +309,14 @@ fn seeded_case(seeded: &mut Seeded) -> NumberAt {
     let hit = start + seeded.up_to(number.len() - 1);
     damage(&mut file, hit, seeded);
 
-    let place = if seeded.one_in(CASES_TO_ANY_PLACE) {
+    let offset = if seeded.one_in(CASES_TO_ANY_OFFSET) {
         seeded.up_to(file.len())
     } else {
         start
     };
     NumberAt {
         file,
-        place: place as u64,
+        offset: offset as u64,
     }
 }
 
@@ -370,9 +370,9 @@ mod tests {
     #[test]
     fn what_reads_in_any_case_is_the_written_form() {
         for Suite { name, cases, .. } in number_suites() {
-            for NumberAt { file, place } in cases {
-                if let Reading::Number { value, next } = read_number(&file, place) {
-                    let bytes = &file[place as usize..next as usize];
+            for NumberAt { file, offset } in cases {
+                if let Reading::Number { value, next } = read_number(&file, offset) {
+                    let bytes = &file[offset as usize..next as usize];
                     assert_eq!(write_number(value), bytes, "{name}");
                 }
             }

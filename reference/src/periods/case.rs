@@ -7,6 +7,8 @@ use std::fmt;
 
 /// What stands for the digits of an empty file.
 const EMPTY_FILE: &str = "-";
+/// What stands between the numbers of the plant table and those of the segment table.
+const BETWEEN_TABLES: &str = "|";
 
 /// A file and the tables for its rows.
 #[derive(Clone, Debug, PartialEq, Eq)]
@@ -19,7 +21,11 @@ impl PeriodCase {
     /// Our own answer: the numbers of both tables, or the refusal.
     pub fn answer(&self) -> String {
         match account(&self.file, self.tables) {
-            Ok(rows) => format!("A {}", spaced(&rows.numbers())),
+            Ok(rows) => format!(
+                "A {} {BETWEEN_TABLES} {}",
+                spaced(&rows.plant_numbers()),
+                spaced(&rows.segment_numbers())
+            ),
             Err(refused) => refused.to_string(),
         }
     }
@@ -51,7 +57,7 @@ mod tests {
         let one_plant_one_store = [1, 1, 1, 0, 0, 1, 0, 6, 0, 0];
         assert_eq!(
             line_of(&one_plant_one_store, Tables::just_for(1, 1)),
-            "8 5 01010100000100060000 A 0 0 0 0 0 0 0 0 0 0 0 0 1"
+            "8 5 01010100000100060000 A 0 0 0 0 0 0 0 0 | 0 0 0 0 1"
         );
         assert_eq!(line_of(&[], Tables::just_for(2, 0)), "16 0 - R 1 0");
     }

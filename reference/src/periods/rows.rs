@@ -134,11 +134,6 @@ impl Rows {
     pub fn segment_numbers(&self) -> Vec<u64> {
         self.segments.iter().flat_map(SegmentRow::numbers).collect()
     }
-
-    /// The numbers of the plant table, then those of the segment table.
-    pub fn numbers(&self) -> Vec<u64> {
-        [self.plant_numbers(), self.segment_numbers()].concat()
-    }
 }
 
 impl fmt::Display for Rows {

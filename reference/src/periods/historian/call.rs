@@ -1,38 +1,10 @@
 //! The call of the historian, put as the lengths of the file and of both tables, then the file.
 
 use super::returned::Returned;
+use super::table_bytes::TableBytes;
 use crate::frames::{first_length, split, write_length};
-use crate::periods::accounts::Tables;
 use crate::periods::case::PeriodCase;
 use crate::questions::{hex, Question};
-
-/// Bytes of a number in the historian's tables.
-pub const NUMBER_BYTES: usize = 8;
-
-/// How many bytes the two tables of the historian have.
-#[derive(Clone, Copy, Debug, PartialEq, Eq)]
-pub struct TableBytes {
-    pub plant: usize,
-    pub segment: usize,
-}
-
-impl TableBytes {
-    /// The bytes of as many numbers and no spare ones.
-    pub fn of(tables: Tables) -> Self {
-        TableBytes {
-            plant: tables.plant * NUMBER_BYTES,
-            segment: tables.segment * NUMBER_BYTES,
-        }
-    }
-
-    /// How many whole numbers the bytes hold.
-    pub fn whole_numbers(self) -> Tables {
-        Tables {
-            plant: self.plant / NUMBER_BYTES,
-            segment: self.segment / NUMBER_BYTES,
-        }
-    }
-}
 
 /// One question: what does the call with this file and such tables leave?
 #[derive(Clone, Debug, PartialEq, Eq)]
@@ -79,7 +51,7 @@ impl Question for HistorianCall {
     }
 
     fn answer(&self) -> Returned {
-        Returned::of(self)
+        Returned::of(&self.file, self.tables)
     }
 
     fn in_words(&self) -> String {
@@ -94,22 +66,8 @@ impl Question for HistorianCall {
 #[cfg(test)]
 mod tests {
     use super::*;
+    use crate::periods::historian::table_bytes::NUMBER_BYTES;
     use crate::periods::paper::proved_cases;
-
-    #[test]
-    fn spare_bytes_hold_no_number() {
-        for (bytes, numbers) in [(0, 0), (7, 0), (8, 1), (15, 1), (16, 2)] {
-            let tables = TableBytes {
-                plant: bytes,
-                segment: bytes + NUMBER_BYTES,
-            };
-            let expected = Tables {
-                plant: numbers,
-                segment: numbers + 1,
-            };
-            assert_eq!(tables.whole_numbers(), expected);
-        }
-    }
 
     #[test]
     fn tables_of_a_case_have_no_spare_bytes() {

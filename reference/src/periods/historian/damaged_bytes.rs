@@ -1,6 +1,7 @@
 //! Calls with files that are damaged at each byte.
 
-use super::call::{HistorianCall, TableBytes};
+use super::call::HistorianCall;
+use super::table_bytes::TableBytes;
 use crate::numbers::number::MORE_FOLLOW;
 use crate::periods::accounts::Tables;
 use crate::periods::paper::WHOLE_PERIOD;

@@ -5,6 +5,7 @@ pub mod call;
 mod damaged_bytes;
 mod returned;
 mod seeded_calls;
+pub mod table_bytes;
 mod table_lengths;
 
 use super::account_limits::{

@@ -1,6 +1,6 @@
 //! What a call leaves with the historian: the refusal and the place, then all bytes of both tables.
 
-use super::call::{HistorianCall, NUMBER_BYTES};
+use super::table_bytes::{TableBytes, NUMBER_BYTES};
 use crate::frames::split;
 use crate::periods::accounts::account;
 use crate::questions::Answer;
@@ -49,15 +49,15 @@ pub struct Returned {
 }
 
 impl Returned {
-    /// What the call must leave.
-    pub fn of(call: &HistorianCall) -> Self {
+    /// What the call with this file and such tables must leave.
+    pub fn of(file: &[u8], tables: TableBytes) -> Self {
         let before = Returned {
             refusal: ACCEPTED,
             place: NO_PLACE,
-            plant_table: PLANT_PATTERN.table(call.tables.plant),
-            segment_table: SEGMENT_PATTERN.table(call.tables.segment),
+            plant_table: PLANT_PATTERN.table(tables.plant),
+            segment_table: SEGMENT_PATTERN.table(tables.segment),
         };
-        match account(&call.file, call.tables.whole_numbers()) {
+        match account(file, tables.whole_numbers()) {
             Ok(rows) => Returned {
                 plant_table: written_over(before.plant_table, &rows.plant_numbers()),
                 segment_table: written_over(before.segment_table, &rows.segment_numbers()),
@@ -165,17 +165,14 @@ impl Answer for Returned {
 #[cfg(test)]
 mod tests {
     use super::*;
-    use crate::periods::historian::call::TableBytes;
     use crate::periods::paper::whole_period;
 
     /// A period of one plant and one store, with the plant's export.
     const SMALLEST: [u8; 10] = [1, 1, 1, 0, 3, 1, 0, 6, 2, 0];
 
-    fn call(file: &[u8], plant: usize, segment: usize) -> HistorianCall {
-        HistorianCall {
-            file: file.to_vec(),
-            tables: TableBytes { plant, segment },
-        }
+    /// What the call with this file and tables of so many bytes must leave.
+    fn left_by(file: &[u8], plant: usize, segment: usize) -> Returned {
+        Returned::of(file, TableBytes { plant, segment })
     }
 
     #[test]
@@ -191,7 +188,7 @@ mod tests {
 
     #[test]
     fn accepted_file_writes_the_first_numbers_and_no_more() {
-        let returned = Returned::of(&call(&SMALLEST, 64 + 3, 40 + 9));
+        let returned = left_by(&SMALLEST, 64 + 3, 40 + 9);
         let numbers =
             |numbers: &[u64]| -> Vec<u8> { numbers.iter().flat_map(|n| n.to_le_bytes()).collect() };
         assert_eq!((returned.refusal, returned.place), (0, 0));
@@ -210,7 +207,7 @@ mod tests {
     #[test]
     fn refused_file_writes_nothing() {
         for (plant, segment, refusal, place) in [(63, 40, 14, 8), (64, 39, 15, 5), (0, 0, 14, 8)] {
-            let returned = Returned::of(&call(&SMALLEST, plant, segment));
+            let returned = left_by(&SMALLEST, plant, segment);
             assert_eq!((returned.refusal, returned.place), (refusal, place));
             assert_eq!(returned.plant_table, PLANT_PATTERN.table(plant));
             assert_eq!(returned.segment_table, SEGMENT_PATTERN.table(segment));
@@ -219,7 +216,7 @@ mod tests {
 
     #[test]
     fn answer_is_refusal_place_and_both_tables() {
-        let returned = Returned::of(&call(&[0x01], 2, 1));
+        let returned = left_by(&[0x01], 2, 1);
         assert_eq!(
             returned.bytes(),
             [1, 0, 0, 0, 1, 0, 0, 0, 0, 0, 0, 0, 90, 107, 165]
@@ -227,13 +224,13 @@ mod tests {
         assert_eq!(returned.length_in(&[0; 20]), 15);
         assert_eq!(returned.length_in(&[0; 14]), 14);
         assert_eq!(returned.label(), "R1");
-        let accepted = Returned::of(&call(&whole_period(), 128, 80));
+        let accepted = left_by(&whole_period(), 128, 80);
         assert_eq!(accepted.label(), "A");
     }
 
     #[test]
     fn differences_name_what_differs() {
-        let returned = Returned::of(&call(&[0x01], 2, 1));
+        let returned = left_by(&[0x01], 2, 1);
         let mut came = returned.bytes();
         came[0] = 2;
         assert_eq!(

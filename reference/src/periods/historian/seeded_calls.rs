@@ -1,6 +1,7 @@
 //! Seeded calls: the seeded cases of the whole of the paper, their tables with spare bytes.
 
-use super::call::{HistorianCall, NUMBER_BYTES};
+use super::call::HistorianCall;
+use super::table_bytes::NUMBER_BYTES;
 use crate::periods::case::PeriodCase;
 use crate::periods::seeded::period_cases::seeded_cases;
 use crate::seeded::Seeded;
@@ -41,7 +42,7 @@ fn spare_bytes(seeded: &mut Seeded) -> usize {
 mod tests {
     use super::*;
     use crate::periods::accounts::Tables;
-    use crate::periods::historian::call::TableBytes;
+    use crate::periods::historian::table_bytes::TableBytes;
     use crate::periods::reading::read_period;
     use std::collections::BTreeSet;
 

@@ -1,6 +1,7 @@
 //! Calls whose tables have every length beside the one that is needed.
 
-use super::call::{HistorianCall, TableBytes, NUMBER_BYTES};
+use super::call::HistorianCall;
+use super::table_bytes::{TableBytes, NUMBER_BYTES};
 use crate::periods::account_limits::full_size::{PLANTS, SEGMENTS};
 use crate::periods::account_limits::longest::longest_accepted;
 use crate::periods::accounts::Tables;
