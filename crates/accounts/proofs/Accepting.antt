@@ -11,40 +11,40 @@ use lib.ListN.{length, getD, take, drop, length-map, take-append-drop}
 use lib.Seq.{drop-drop}
 use borrow.Author.Tests.{ltb-false, lt-ltb, eq-eqb}
 use Rattle.number.specs.Groups.{largest}
+use Rattle.fields.specs.Readers.{Read, read, refused}
 use Rattle.records.specs.declared.line.Line.{Line}
-use Rattle.records.specs.Fields.{Read, read, refused}
+use Rattle.records.specs.declared.counts.Counts.{Counts}
 use Rattle.records.specs.Periods.{Period, periodFile}
 use Rattle.records.specs.Held.{recordsOf}
-use Rattle.records.specs.Within.{Within}
+use Rattle.records.specs.Within.{Within, countsOf}
 use Rattle.records.proofs.Within.{read-within}
 use Rattle.accounts.specs.Emissions.{mostGrams, grams, ownedBy, gramsOf}
 use Rattle.accounts.specs.Accounts.{Account, account}
 use Rattle.accounts.specs.Rows.{plantRows, segmentRows}
 use Rattle.accounts.specs.Order.{accepted, Test, NoneFails, holds, lineTests, segmentTests, plantNumbers, segmentNumbers, tableTests}
-use Rattle.accounts.specs.Quantified.{started, walk, accountsOf, stores, rows, judged, afterReading, quantified}
+use Rattle.accounts.specs.Quantified.{started, turnsOf, accountsOf, stores, rows, judged, afterReading, quantified}
 use Rattle.accounts.specs.Accepted.{Accepted, held}
 use Rattle.accounts.specs.Shares.{noTurn, accountAt}
-use Rattle.accounts.proofs.Testing.{refused-not-accepted, none-answers, none-fails, none-of-both}
-use Rattle.accounts.proofs.Walks.{getD-map, turns-length}
-use Rattle.accounts.proofs.OwnersLines.{owner-is, grams-of-both}
+use Rattle.accounts.proofs.Testing.{refusal-not-accepted, none-answers, none-fails, none-of-both}
+use Rattle.accounts.proofs.Passing.{getD-map, turns-length}
+use Rattle.accounts.proofs.OwnersLines.{owner-is, no-grams, grams-with, grams-of-both}
 
 -- ---- what the lines satisfy when 10 does not refuse one of them
--- an owner's total is the one up to any line and that of the lines behind it
+-- a total is the one up to any line and that of the lines behind it
 grams-split :
-    (ownerKind owner : ℕ) (lines : List Line) (done : ℕ) →
-    gramsOf ownerKind owner lines ≡ gramsOf ownerKind owner (take done lines) + gramsOf ownerKind owner (drop done lines)
-grams-split ownerKind owner lines done =
-    ap (gramsOf ownerKind owner) (sym (take-append-drop done lines)) ∙ grams-of-both ownerKind owner (take done lines) (drop done lines)
+    (choose : Line → Bool) (lines : List Line) (done : ℕ) → gramsOf choose lines ≡ gramsOf choose (take done lines) + gramsOf choose (drop done lines)
+grams-split choose lines done = ap (gramsOf choose) (sym (take-append-drop done lines)) ∙ grams-of-both choose (take done lines) (drop done lines)
 
 -- no owner's total passes the limit: its own lines are tested with the total up to them, and the lines of others add nothing to it
 grams-each :
     (ownerKind owner : ℕ) (lines : List Line) (done : ℕ) (left : List Line) → drop done lines ≡ left →
-    NoneFails (lineTests lines done left) → gramsOf ownerKind owner (take done lines) ≤ mostGrams →
-    gramsOf ownerKind owner lines ≤ mostGrams
-unfolding gramsOf lineTests
+    NoneFails (lineTests lines done left) → gramsOf (ownedBy ownerKind owner) (take done lines) ≤ mostGrams →
+    gramsOf (ownedBy ownerKind owner) lines ≤ mostGrams
+unfolding lineTests
 grams-each ownerKind owner lines done [] is none few =
-    let behind : gramsOf ownerKind owner (drop done lines) ≡ 0 = ap (gramsOf ownerKind owner) is in
-    omega (arith, grams-split ownerKind owner lines done)
+    let its = ownedBy ownerKind owner in
+    let behind : gramsOf its (drop done lines) ≡ 0 = ap (gramsOf its) is ∙ no-grams its in
+    omega (arith, grams-split its lines done)
 grams-each ownerKind owner lines done (line ∷ left) is (holds test more) few =
     grams-each ownerKind owner lines (suc done) left left-is more (by-owner (ownedBy ownerKind owner line) refl)
   where
@@ -52,17 +52,18 @@ grams-each ownerKind owner lines done (line ∷ left) is (holds test more) few =
     left-is = ap (λ (n : ℕ). drop n lines) (sym (add-one done)) ∙ sym (drop-drop 1 done lines) ∙ ap (drop 1) is
 
     one-more :
-        gramsOf ownerKind owner (take (suc done) lines)
-        ≡ gramsOf ownerKind owner (take done lines) + cond (ownedBy ownerKind owner line) (grams line) 0
+        gramsOf (ownedBy ownerKind owner) (take (suc done) lines)
+        ≡ gramsOf (ownedBy ownerKind owner) (take done lines) + cond (ownedBy ownerKind owner line) (grams line) 0
     one-more =
-        let here = ap (gramsOf ownerKind owner) is in
-        let behind = ap (gramsOf ownerKind owner) left-is in
-        omega (arith, grams-split ownerKind owner lines done, grams-split ownerKind owner lines (suc done), here, behind)
+        let its = ownedBy ownerKind owner in
+        let here = ap (gramsOf its) is ∙ grams-with its line left in
+        let behind = ap (gramsOf its) left-is in
+        omega (arith, grams-split its lines done, grams-split its lines (suc done), here, behind)
 
-    by-owner : (its : Bool) → ownedBy ownerKind owner line ≡ its → gramsOf ownerKind owner (take (suc done) lines) ≤ mostGrams
+    by-owner : (its : Bool) → ownedBy ownerKind owner line ≡ its → gramsOf (ownedBy ownerKind owner) (take (suc done) lines) ≤ mostGrams
     by-owner true o =
         let same = owner-is ownerKind owner line o in
-        rw (← same .0, ← same .1) (ltb-false mostGrams (gramsOf (line .«owner_kind») (line .owner) (take (suc done) lines)) test)
+        rw (← same .0, ← same .1) (ltb-false mostGrams (gramsOf (ownedBy (line .«owner_kind») (line .owner)) (take (suc done) lines)) test)
     by-owner false o = omega (arith, rw o at one-more, few)
 
 -- ---- what a segment's account satisfies when 11, 12 and 13 do not refuse it
@@ -81,7 +82,7 @@ charged-somewhere (suc emission) zero e = absurd (true≢false (sym both ∙ e))
 charged-somewhere (suc emission) (suc inflow) e = inr (omega arith)
 
 -- where no test of the segments fails, each account is sound
-sound-each :
+pub sound-each :
     (accounts : List Account) → NoneFails (segmentTests accounts) →
     (index : ℕ) (none : Account) → index < length accounts → Sound (getD accounts index none)
 unfolding segmentTests
@@ -96,15 +97,15 @@ sound-each (a ∷ accounts) (holds i (holds o (holds e more))) (suc index) none 
 
 -- ---- what the tables satisfy when 14 and 15 do not refuse them
 pub table-room :
-    (plants segments plantTable segmentTable : ℕ) → NoneFails (tableTests plants segments plantTable segmentTable) →
-    (plantNumbers * plants ≤ plantTable) × (segmentNumbers * segments ≤ segmentTable)
-table-room plants segments plantTable segmentTable (holds p (holds s rest)) =
-    (ltb-false plantTable (plantNumbers * plants) p, ltb-false segmentTable (segmentNumbers * segments) s)
+    (counts : Counts) (plantTable segmentTable : ℕ) → NoneFails (tableTests counts plantTable segmentTable) →
+    (plantNumbers * counts .plants ≤ plantTable) × (segmentNumbers * counts .segments ≤ segmentTable)
+table-room counts plantTable segmentTable (holds p (holds s rest)) =
+    (ltb-false plantTable (plantNumbers * counts .plants) p, ltb-false segmentTable (segmentNumbers * counts .segments) s)
 
 -- ---- the whole period
 pub record Means (period : Period) (plants segments : List ℕ) : Type 0 where
   pub within : Within period
-  pub grams : (ownerKind owner : ℕ) → gramsOf ownerKind owner (period .lines) ≤ mostGrams
+  pub grams : (ownerKind owner : ℕ) → gramsOf (ownedBy ownerKind owner) (period .lines) ≤ mostGrams
   pub sound : (index : ℕ) → index < length (period .segments) → Sound (accountAt period index)
   pub plants-are : plants ≡ plantRows (period .lines) (accountsOf period) 0 (period .plants) (stores period)
   pub segments-are : segments ≡ segmentRows (accountsOf period)
@@ -112,14 +113,14 @@ pub record Means (period : Period) (plants segments : List ℕ) : Type 0 where
 -- there is an account for each segment
 pub accounts-length : (period : Period) → length (accountsOf period) ≡ length (period .segments)
 unfolding accountsOf
-accounts-length period = length-map (walk period) (account (period .lines)) ∙ turns-length 1 (period .segments) (started period)
+accounts-length period = length-map (turnsOf period) (account (period .lines)) ∙ turns-length 1 (period .segments) (started period)
 
 -- and it is that of the segment's turn
 pub account-at :
     (period : Period) (index : ℕ) (none : Account) → index < length (period .segments) → getD (accountsOf period) index none ≡ accountAt period index
 unfolding accountsOf
 account-at period index none below =
-    getD-map (account (period .lines)) (walk period) index noTurn none (rw (turns-length 1 (period .segments) (started period)) below)
+    getD-map (account (period .lines)) (turnsOf period) index noTurn none (rw (turns-length 1 (period .segments) (started period)) below)
 
 -- ---- a period that was read and then accepted
 module _
@@ -133,7 +134,7 @@ module _
   of-segments = segmentTests (accountsOf period)
 
   abbrev of-tables : List Test
-  of-tables = tableTests (length (period .plants)) (length (period .segments)) plantTable segmentTable
+  of-tables = tableTests (countsOf period) plantTable segmentTable
 
   -- none of its tests fails, and the answer is its rows
   none : NoneFails (of-lines ++ (of-segments ++ of-tables))
@@ -150,7 +151,7 @@ module _
 
   -- so it is within the limits of 10 to 13
   judged-means : Within period → Means period plants segments
-  unfolding rows gramsOf
+  unfolding rows
   judged-means within =
       let are = rows-are in
       record {
@@ -158,7 +159,8 @@ module _
         grams =
             λ ownerKind owner.
             grams-each
-            ownerKind owner (period .lines) 0 (period .lines) refl (none-of-both of-lines (of-segments ++ of-tables) none .0) (omega arith);
+            ownerKind owner (period .lines) 0 (period .lines) refl (none-of-both of-lines (of-segments ++ of-tables) none .0)
+            (omega (arith, no-grams (ownedBy ownerKind owner)));
         sound =
             λ index below.
             let a : Account = accountAt period index in
@@ -171,7 +173,7 @@ module _
   -- and each table is as long as 14 and 15 ask
   judged-room : (plantNumbers * length (period .plants) ≤ plantTable) × (segmentNumbers * length (period .segments) ≤ segmentTable)
   judged-room =
-      table-room (length (period .plants)) (length (period .segments)) plantTable segmentTable (none-of-both of-segments of-tables none-behind .1)
+      table-room (countsOf period) plantTable segmentTable (none-of-both of-segments of-tables none-behind .1)
 
 -- ---- a file that is accepted
 -- what its period satisfies, and its rows
@@ -182,7 +184,7 @@ accepted-means {file} {plants} {segments} given = by-reading (periodFile file) r
     by-reading :
         (outcome : Read Period) → periodFile file ≡ outcome →
         afterReading outcome (given .plantTable) (given .segmentTable) ≡ accepted plants segments → Means (recordsOf outcome) plants segments
-    by-reading (refused number place) r e = absurd (refused-not-accepted e)
+    by-reading (refused number place) r e = absurd (refusal-not-accepted e)
     by-reading (read period place rest) r e =
         judged-means period (given .plantTable) (given .segmentTable) plants segments e (read-within file period place rest r)
 
@@ -196,5 +198,5 @@ accepted-lengths {file} {plants} {segments} given = by-reading (periodFile file)
     by-reading :
         (outcome : Read Period) → afterReading outcome (given .plantTable) (given .segmentTable) ≡ accepted plants segments →
         (plantNumbers * length (recordsOf outcome .plants) ≤ given .plantTable) × (segmentNumbers * length (recordsOf outcome .segments) ≤ given .segmentTable)
-    by-reading (refused number place) e = absurd (refused-not-accepted e)
+    by-reading (refused number place) e = absurd (refusal-not-accepted e)
     by-reading (read period place rest) e = judged-room period (given .plantTable) (given .segmentTable) plants segments e

@@ -20,13 +20,13 @@ use Rattle.records.specs.Plants.{noPlant}
 use Rattle.records.specs.Classes.{plantOwner}
 use Rattle.records.specs.Periods.{Period}
 use Rattle.accounts.specs.Emissions.{ownedBy, chosen, emission}
-use Rattle.accounts.specs.Walk.{nowhere, atFirst}
+use Rattle.accounts.specs.Flow.{nowhere, atFirst}
 use Rattle.accounts.specs.Accounts.{hasBit}
 use Rattle.accounts.specs.Rows.{plantRow}
 use Rattle.accounts.specs.Order.{plantNumbers, segmentNumbers}
 use Rattle.accounts.specs.Quantified.{started, accountsOf}
 use Rattle.accounts.specs.Accepted.{Accepted, held}
-use Rattle.accounts.specs.Tables.{rowAt, inRow, setColumn}
+use Rattle.accounts.specs.RowsAndColumns.{rowAt, inRow, setColumn}
 use Rattle.accounts.specs.Shares.{accountAt}
 use Rattle.accounts.specs.Routes.{Leg, routeOf, on, Alone, AloneInRows}
 use Rattle.accounts.specs.Changes.{SameFor}
@@ -34,7 +34,7 @@ use Rattle.accounts.proofs.Bits.{one-bit, same-bits}
 use Rattle.accounts.proofs.OwnersLines.{emission-of-own}
 use Rattle.accounts.proofs.Accepting.{Means, accepted-means}
 use Rattle.accounts.proofs.RowsAt.{plant-row-at, segment-row-at}
-use Rattle.accounts.proofs.Turned.{turn-plants}
+use Rattle.accounts.proofs.TurnsOfPeriod.{turn-plants}
 use Rattle.accounts.proofs.AlongRoutes.{lastOutflow, emissionsAlong, AloneFrom, stored-alone, charged-alone}
 use Rattle.accounts.proofs.Meeting.{on-route-within, meet-exactly, others-elsewhere, stands-before, set-is-route, set-within}
 

@@ -6,7 +6,7 @@ use lib.ListN.{length, length-map, getD, List·getD-map}
 use lib.Seq.{ext-getD}
 use Rattle.records.specs.declared.plant.Plant.{Plant}
 use Rattle.records.specs.Plants.{noPlant}
-use Rattle.accounts.specs.Walk.{nowhere, atFirst}
+use Rattle.accounts.specs.Flow.{nowhere, atFirst}
 
 pub same-starts :
     (one two : List Plant) → length two ≡ length one →

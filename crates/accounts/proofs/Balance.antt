@@ -8,18 +8,19 @@ use lib.ListN.{length, length-map, getD}
 use lib.Seq.{take-all}
 use Rattle.records.specs.Plants.{noPlant}
 use Rattle.records.specs.Periods.{Period}
-use Rattle.accounts.specs.Walk.{Standing, nowhere, atFirst, amounts, sum, credits, sentOn, passed, Turn, arrived}
+use Rattle.accounts.specs.Sums.{sum}
+use Rattle.accounts.specs.Flow.{Standing, nowhere, atFirst, amounts, credits, sentOn, passed, Turn, arrived}
 use Rattle.accounts.specs.Accounts.{account}
 use Rattle.accounts.specs.Order.{plantNumbers, segmentNumbers}
 use Rattle.accounts.specs.Quantified.{started, stores}
 use Rattle.accounts.specs.Accepted.{Accepted, held}
-use Rattle.accounts.specs.Tables.{inRow, columnSum, exportedColumn, storedColumn, lossColumn}
+use Rattle.accounts.specs.RowsAndColumns.{inRow, columnSum, exportedColumn, storedColumn, lossColumn}
 use Rattle.accounts.specs.Shares.{turnAt, entering, afterwards}
 use Rattle.accounts.proofs.Credits.{credits-sum, credited-most}
-use Rattle.accounts.proofs.Walks.{getD-map, one-sent, credited}
+use Rattle.accounts.proofs.Passing.{getD-map, one-sent, credited}
 use Rattle.accounts.proofs.Accepting.{Means, accepted-means}
 use Rattle.accounts.proofs.RowsAt.{plant-row-at, segment-row-at, column-is}
-use Rattle.accounts.proofs.Turned.{after, after-all, after-length, turn-standings, turned, outflow-most}
+use Rattle.accounts.proofs.TurnsOfPeriod.{after, after-all, after-length, turn-standings, turned, outflow-most}
 
 -- the amounts of all plants, wherever they stand
 abbrev amountHeld : Standing → ℕ

@@ -8,7 +8,8 @@ use lib.ListN.{getD}
 use Rattle.records.specs.declared.line.Line.{Line}
 use Rattle.records.specs.Classes.{segmentOwner}
 use Rattle.accounts.specs.Emissions.{emission}
-use Rattle.accounts.specs.Walk.{sum, Turn}
+use Rattle.accounts.specs.Sums.{sum}
+use Rattle.accounts.specs.Flow.{Turn}
 use Rattle.accounts.specs.Accounts.{Account, account, charge, chargeTo}
 use Rattle.accounts.specs.Shares.{entering}
 use Rattle.accounts.proofs.Credits.{div-mono, up-part}

@@ -11,11 +11,12 @@ use native.Mathlib.Omega.{arith}
 use lib.Count.{ones}
 use lib.ListN.{length}
 use Rattle.records.specs.declared.line.Line.{Line}
-use Rattle.accounts.specs.Walk.{Standing, passes, amounts, sum, Turn}
+use Rattle.accounts.specs.Sums.{sum}
+use Rattle.accounts.specs.Flow.{Standing, passes, amounts, Turn}
 use Rattle.accounts.specs.Accounts.{Account, account, charge}
 use Rattle.accounts.specs.Order.{segmentNumbers}
 use Rattle.accounts.specs.Accepted.{Accepted, held}
-use Rattle.accounts.specs.Tables.{inRow, inflowColumn, emissionColumn, setColumn}
+use Rattle.accounts.specs.RowsAndColumns.{inRow, inflowColumn, emissionColumn, setColumn}
 use Rattle.accounts.specs.Shares.{turnAt, entering, charged, AddUp}
 use Rattle.accounts.proofs.Bits.{digit}
 use Rattle.accounts.proofs.Sets.{passing, plants-on-it}

@@ -11,15 +11,16 @@ use Rattle.records.specs.declared.line.Line.{Line}
 use Rattle.records.specs.Classes.{plantOwner}
 use Rattle.records.specs.Periods.{Period}
 use Rattle.accounts.specs.Emissions.{emission}
-use Rattle.accounts.specs.Walk.{Standing, sum, passed, Turn, turns}
+use Rattle.accounts.specs.Sums.{sum}
+use Rattle.accounts.specs.Flow.{Standing, passed, Turn, turns}
 use Rattle.accounts.specs.Accounts.{account, charge, chargeTo, charges}
 use Rattle.accounts.specs.Order.{plantNumbers}
-use Rattle.accounts.specs.Quantified.{started, walk, accountsOf}
+use Rattle.accounts.specs.Quantified.{started, turnsOf, accountsOf}
 use Rattle.accounts.specs.Accepted.{Accepted, held}
-use Rattle.accounts.specs.Tables.{inRow, columnSum, associatedColumn}
+use Rattle.accounts.specs.RowsAndColumns.{inRow, columnSum, associatedColumn}
 use Rattle.accounts.specs.Shares.{entering, charged, ownEmissions}
 use Rattle.accounts.proofs.Credits.{sum-snoc}
-use Rattle.accounts.proofs.Walks.{passed-length}
+use Rattle.accounts.proofs.Passing.{passed-length}
 use Rattle.accounts.proofs.Charges.{charge-nothing}
 use Rattle.accounts.proofs.Accepting.{Means, accepted-means}
 use Rattle.accounts.proofs.RowsAt.{plant-row-at}
@@ -47,26 +48,26 @@ module _ (lines : List Line) where
   -- ---- at all segments
   -- what one plant is charged
   charges-at :
-      (index : ℕ) (walked : List Turn) →
-      charges index (map (account lines) walked) ≡ sum (map (λ (turn : Turn). getD (charged lines turn) index 0) walked)
+      (index : ℕ) (all : List Turn) →
+      charges index (map (account lines) all) ≡ sum (map (λ (turn : Turn). getD (charged lines turn) index 0) all)
   unfolding sum
   charges-at index [] = refl
-  charges-at index (turn ∷ walked) = omega (arith, charged-at index turn, charges-at index walked)
+  charges-at index (turn ∷ all) = omega (arith, charged-at index turn, charges-at index all)
 
   -- one plant more adds all its charges
   one-plant-more :
-      (count : ℕ) (walked : List Turn) →
-      sum (map (chargedUpTo (suc count)) walked) ≡ sum (map (chargedUpTo count) walked) + charges count (map (account lines) walked)
+      (count : ℕ) (all : List Turn) →
+      sum (map (chargedUpTo (suc count)) all) ≡ sum (map (chargedUpTo count) all) + charges count (map (account lines) all)
   unfolding sum
   one-plant-more count [] = refl
-  one-plant-more count (turn ∷ walked) =
-      omega (arith, sum-one-more (charged lines turn) count, charged-at count turn, one-plant-more count walked)
+  one-plant-more count (turn ∷ all) =
+      omega (arith, sum-one-more (charged lines turn) count, charged-at count turn, one-plant-more count all)
 
   -- of no plants there are no charges
-  no-plants : (walked : List Turn) → sum (map (chargedUpTo 0) walked) ≡ 0
+  no-plants : (all : List Turn) → sum (map (chargedUpTo 0) all) ≡ 0
   unfolding sum
   no-plants [] = refl
-  no-plants (turn ∷ walked) = omega (arith, no-plants walked)
+  no-plants (turn ∷ all) = omega (arith, no-plants all)
 
   -- up to the last plant, these are all charges
   all-plants :
@@ -85,19 +86,19 @@ pub charges-of-plant :
     {file plants segments : List ℕ} → Accepted file plants segments → (index : ℕ) → index < length (held file .plants) →
     inRow plantNumbers index associatedColumn plants
     ≡ emission plantOwner (suc index) (held file .lines)
-    + sum (map (λ (turn : Turn). getD (charged (held file .lines) turn) index 0) (walk (held file)))
+    + sum (map (λ (turn : Turn). getD (charged (held file .lines) turn) index 0) (turnsOf (held file)))
 unfolding accountsOf
 charges-of-plant {file} accepted index below =
     ap (λ (row : List ℕ). getD row associatedColumn 0) (plant-row-at (accepted-means accepted) index below)
-    ∙ ap (λ (all : ℕ). emission plantOwner (suc index) (held file .lines) + all) (charges-at (held file .lines) index (walk (held file)))
+    ∙ ap (λ (all : ℕ). emission plantOwner (suc index) (held file .lines) + all) (charges-at (held file .lines) index (turnsOf (held file)))
 
 -- ---- the column of so many plants
 column-up-to :
     {period : Period} {plants segments : List ℕ} → Means period plants segments → (count : ℕ) → count ≤ length (period .plants) →
     columnSum plantNumbers associatedColumn count plants
-    ≡ sum (ownEmissions (period .lines) count) + sum (map (chargedUpTo (period .lines) count) (walk period))
+    ≡ sum (ownEmissions (period .lines) count) + sum (map (chargedUpTo (period .lines) count) (turnsOf period))
 unfolding columnSum ownEmissions accountsOf sum
-column-up-to {period} means zero few = omega (arith, no-plants (period .lines) (walk period))
+column-up-to {period} means zero few = omega (arith, no-plants (period .lines) (turnsOf period))
 column-up-to {period} means (suc count) few =
     let lines = period .lines in
     rw (plant-row-at means count few)
@@ -105,7 +106,7 @@ column-up-to {period} means (suc count) few =
       arith,
       column-up-to means count (omega arith),
       sum-snoc (ownEmissions lines count) (emission plantOwner (suc count) lines),
-      one-plant-more lines count (walk period),
+      one-plant-more lines count (turnsOf period),
     ))
 
 -- of all plants
@@ -113,11 +114,11 @@ pub charges-counted :
     {file plants segments : List ℕ} → Accepted file plants segments →
     columnSum plantNumbers associatedColumn (length (held file .plants)) plants
     ≡ sum (ownEmissions (held file .lines) (length (held file .plants)))
-    + sum (map (λ (turn : Turn). sum (charged (held file .lines) turn)) (walk (held file)))
+    + sum (map (λ (turn : Turn). sum (charged (held file .lines) turn)) (turnsOf (held file)))
 charges-counted {file} accepted =
     let period = held file in
     let count = length (period .plants) in
     column-up-to (accepted-means accepted) count (omega arith)
     ∙ ap
-    (λ (walked : List ℕ). sum (ownEmissions (period .lines) count) + sum walked)
+    (λ (all : List ℕ). sum (ownEmissions (period .lines) count) + sum all)
     (all-plants (period .lines) count 1 (period .segments) (started period) (simp length-map (omega arith)))

@@ -4,13 +4,12 @@ use Prim.Native.Nat.{ℕ, zero, suc, _+_, _-_, _*_, _/_, _≤_, _<_}
 use mathlib.Core.Path.{_≡_, refl, sym, ap, _∙_}
 use mathlib.Core.List.{List, [], _∷_, _++_}
 use mathlib.Core.Logic.{_⊎_, inl, inr}
-use native.Mathlib.Nat.{add-zero, add-assoc, mul-comm, add-mul, mul-le-mul-left, not-suc-le-zero, le-of-suc-le-suc}
-use native.Mathlib.Nat.{div-zero, mul-div-cancel-left, div-mul-le-self, le-div-iff-mul-le, div-lt-iff-lt-mul, lt-div-mul-add}
+use native.Mathlib.Nat.{add-zero, add-assoc, mul-comm, add-mul, mul-le-mul-left, not-suc-le-zero, le-of-suc-le-suc, div-zero, mul-div-cancel-left, div-mul-le-self, le-div-iff-mul-le, div-lt-iff-lt-mul, lt-div-mul-add}
 use native.Mathlib.Decide.{decLe}
 use native.Mathlib.Omega.{arith}
 use lib.ListN.{length, getD, take, List·getD-eq-default}
-use Rattle.accounts.specs.Emissions.{roundedUp}
-use Rattle.accounts.specs.Walk.{sum, credit, creditsFrom, credits}
+use Rattle.accounts.specs.Sums.{sum, roundedUp}
+use Rattle.accounts.specs.Flow.{credit, creditsFrom, credits}
 
 -- ---- sums
 -- where no number is over a bound, their sum is not over the bound times their count

@@ -7,16 +7,16 @@ use mathlib.Core.List.{List}
 use lib.ListN.{length, getD}
 use Rattle.records.specs.declared.segment.Segment.{Segment}
 use Rattle.records.specs.Segments.{noSegment}
-use Rattle.accounts.specs.Walk.{sum}
+use Rattle.accounts.specs.Sums.{sum}
 use Rattle.accounts.specs.Accounts.{account}
 use Rattle.accounts.specs.Order.{segmentNumbers}
 use Rattle.accounts.specs.Accepted.{Accepted, held}
-use Rattle.accounts.specs.Tables.{inRow, inflowColumn, outflowColumn}
+use Rattle.accounts.specs.RowsAndColumns.{inRow, inflowColumn, outflowColumn}
 use Rattle.accounts.specs.Shares.{turnAt, entering, leaving}
 use Rattle.accounts.proofs.Credits.{credits-sum}
 use Rattle.accounts.proofs.Accepting.{accepted-means}
 use Rattle.accounts.proofs.RowsAt.{segment-row-at}
-use Rattle.accounts.proofs.Turned.{turn-segment, outflow-most}
+use Rattle.accounts.proofs.TurnsOfPeriod.{turn-segment, outflow-most}
 
 module _ {file plants segments : List ℕ} (given : Accepted file plants segments) (s : ℕ) (segment : s < length (held file .segments)) where
   -- the credits of a turn add up to the outflow that it shares out

@@ -6,13 +6,15 @@ use mathlib.Core.List.{List, [], _∷_, _++_, zipWith, flatMap}
 use Rattle.number.specs.Groups.{gather, value, padded}
 use Rattle.number.specs.Reading.{reading, formed}
 use Rattle.number.specs.Writing.{writing, written}
+use Rattle.fields.specs.Run.{runOf, run}
+use Rattle.fields.specs.Readers.{each, reads}
 use Rattle.records.specs.Classes.{plantOwner, classes, classAllowed}
 use Rattle.records.specs.Lines.{lineOf}
-use Rattle.records.specs.Run.{runOf, run}
-use Rattle.records.specs.Fields.{each, reads}
-use Rattle.records.specs.Periods.{header, plant, segment, line, records, period, periodFile}
-use Rattle.accounts.specs.Emissions.{gramsOf, emission}
-use Rattle.accounts.specs.Walk.{sum, creditsFrom, passed, turns, arrived}
+use Rattle.records.specs.Headers.{header}
+use Rattle.records.specs.Periods.{plant, segment, line, records, period, periodFile}
+use Rattle.accounts.specs.Emissions.{chosen, gramsOf, emission}
+use Rattle.accounts.specs.Sums.{sum}
+use Rattle.accounts.specs.Flow.{creditsFrom, passed, turns, arrived}
 use Rattle.accounts.specs.Accounts.{setOf, account}
 use Rattle.accounts.specs.Rows.{plantRows, segmentRows}
 use Rattle.accounts.specs.Order.{refusal, accepted, tested, lineTests, segmentTests}
@@ -91,12 +93,14 @@ pub examples :
     × (quantified (file (numbers 0 0 0 6 0 2000 350)) 16 10 ≡ refusal 13 1)
     -- plant table of 15 numbers
     × (quantified whole 15 10 ≡ refusal 14 16)
-unfolding gather value padded reading formed writing written flatMap zipWith classes classAllowed runOf run each reads header plant segment line records period periodFile gramsOf emission sum creditsFrom passed turns arrived setOf account plantRows segmentRows tested lineTests segmentTests accountsOf rows judged quantified
+unfolding gather value padded reading formed writing written flatMap zipWith classes classAllowed runOf run each reads header plant segment line
+    records period periodFile sum chosen gramsOf emission creditsFrom passed turns arrived setOf account plantRows segmentRows tested lineTests
+    segmentTests accountsOf rows judged quantified
 examples = (refl, refl, refl, refl, refl, refl, refl, refl, refl, refl, refl, refl, refl, refl, refl)
 
 -- "Easily done wrongly": "two lines of 500 g are 1 kg, not 2"
 pub two-lines :
     let line = lineOf plantOwner 1 3 500 1 in
     emission plantOwner 1 (line ∷ line ∷ []) ≡ 1
-unfolding gramsOf emission
+unfolding sum chosen gramsOf emission
 two-lines = refl

@@ -10,29 +10,32 @@ use lib.ListN.{length, getD, drop, List·getD-eq-default}
 use lib.Pow.{pow-mono}
 use lib.Seq.{getD-take, getD-drop}
 use Rattle.number.specs.Groups.{largest}
+use Rattle.fields.specs.Lists.{Each}
+use Rattle.records.specs.declared.counts.Counts.{Counts}
 use Rattle.records.specs.declared.plant.Plant.{Plant}
 use Rattle.records.specs.Plants.{noPlant, millionths}
 use Rattle.records.specs.Segments.{mostSegments}
 use Rattle.records.specs.Classes.{plantOwner, segmentOwner}
 use Rattle.records.specs.Periods.{Period}
-use Rattle.records.specs.Within.{Each, PlantWithin}
+use Rattle.records.specs.Within.{countsOf, PlantWithin}
 use Rattle.records.proofs.Within.{each-at}
-use Rattle.accounts.specs.Emissions.{gramsInKg, gramsOf, emission}
-use Rattle.accounts.specs.Walk.{Standing, nowhere, atFirst, brings, sum, Turn, arrived}
+use Rattle.accounts.specs.Emissions.{gramsInKg, gramsOf, emission, ownedBy}
+use Rattle.accounts.specs.Sums.{sum}
+use Rattle.accounts.specs.Flow.{Standing, nowhere, atFirst, brings, Turn, arrived}
 use Rattle.accounts.specs.Accounts.{Account, account, chargeTo, charges}
 use Rattle.accounts.specs.Rows.{kgInUnit, plantRow, associated, segmentRow}
 use Rattle.accounts.specs.Order.{plantNumbers, segmentNumbers}
-use Rattle.accounts.specs.Quantified.{started, walk, accountsOf, stores}
+use Rattle.accounts.specs.Quantified.{started, turnsOf, accountsOf, stores}
 use Rattle.accounts.specs.Accepted.{Accepted}
-use Rattle.accounts.specs.Tables.{rowAt, inRow, entryBits, Entries}
+use Rattle.accounts.specs.RowsAndColumns.{rowAt, inRow, entryBits, Entries}
 use Rattle.accounts.specs.Shares.{turnAt, accountAt, entering, leaving}
 use Rattle.accounts.proofs.Credits.{part-of-sum, up-most, credited-most}
 use Rattle.accounts.proofs.Charges.{charge-within}
 use Rattle.accounts.proofs.Sets.{set-below}
-use Rattle.accounts.proofs.Walks.{getD-map, one-sent, turns-length}
+use Rattle.accounts.proofs.Passing.{getD-map, one-sent, turns-length}
 use Rattle.accounts.proofs.Accepting.{Means, accepted-means}
 use Rattle.accounts.proofs.RowsAt.{plant-row-at, segment-row-at, plants-long, segments-long}
-use Rattle.accounts.proofs.Turned.{after, after-all, turn-standings, turn-plants, turned, sent, outflow-most}
+use Rattle.accounts.proofs.TurnsOfPeriod.{after, after-all, turn-standings, turn-plants, turned, sent, outflow-most}
 
 -- ---- a table, row by row
 -- a number of a table is one of its row
@@ -69,10 +72,10 @@ row-entries at (number ∷ row) all (suc i) = row-entries (suc at) row (all .1) 
 -- ---- the numbers of one row
 -- a plant's, where no more is stored than was exported
 plant-row-fits :
-    (segments own : ℕ) (plant : Plant) (stored associated : ℕ) → PlantWithin segments own plant → stored ≤ plant .exported →
+    (counts : Counts) (own : ℕ) (plant : Plant) (stored associated : ℕ) → PlantWithin counts own plant → stored ≤ plant .exported →
     associated ≤ largest + mostSegments * largest → EachFits 0 (plantRow plant stored associated)
 unfolding Each
-plant-row-fits segments own plant stored associated within kept few =
+plant-row-fits counts own plant stored associated within kept few =
     let fraction = mul-le-mul-left stored (within .fraction) in
     let gross = div-mul-le-self (stored * plant .fraction) millionths in
     let net = stored * plant .fraction / millionths - associated in
@@ -111,7 +114,7 @@ module _ {period : Period} {plants segments : List ℕ} (means : Means period pl
   emission-most : (ownerKind owner : ℕ) → emission ownerKind owner (period .lines) ≤ largest
   unfolding emission
   emission-most ownerKind owner =
-      up-most gramsInKg (gramsOf ownerKind owner (period .lines)) largest (omega (arith, means .grams ownerKind owner))
+      up-most gramsInKg (gramsOf (ownedBy ownerKind owner) (period .lines)) largest (omega (arith, means .grams ownerKind owner))
 
   -- nor is any charge, as no plant brings more than the inflow
   charge-largest : (index : ℕ) (turn : Turn) → chargeTo index (account (period .lines) turn) ≤ largest
@@ -122,10 +125,10 @@ module _ {period : Period} {plants segments : List ℕ} (means : Means period pl
       (emission-most segmentOwner (turn .own))
 
   -- nor are all charges of a plant over as much for each segment
-  charges-most : (index : ℕ) (walked : List Turn) → charges index (map (account (period .lines)) walked) ≤ length walked * largest
+  charges-most : (index : ℕ) (all : List Turn) → charges index (map (account (period .lines)) all) ≤ length all * largest
   unfolding sum
   charges-most index [] = omega arith
-  charges-most index (turn ∷ walked) = omega (arith, charge-largest index turn, charges-most index walked)
+  charges-most index (turn ∷ all) = omega (arith, charge-largest index turn, charges-most index all)
 
   -- so what is associated with a plant is not over so many times as much
   associated-most : (index : ℕ) → associated (period .lines) (accountsOf period) index ≤ largest + mostSegments * largest
@@ -134,9 +137,9 @@ module _ {period : Period} {plants segments : List ℕ} (means : Means period pl
       omega (
         arith,
         emission-most plantOwner (suc index),
-        charges-most index (walk period),
+        charges-most index (turnsOf period),
         turns-length 1 (period .segments) (started period),
-        means .within .most-segments,
+        means .within .counts .most-segments,
       )
 
   -- no plant stores more than it exported
@@ -147,10 +150,10 @@ module _ {period : Period} {plants segments : List ℕ} (means : Means period pl
   plants-fit : Entries plants
   plants-fit =
       entries-by-rows plantNumbers (length (period .plants)) plants (omega arith) (plants-long means) (λ p plant.
-      let within = each-at (PlantWithin (length (period .segments))) 1 (period .plants) p noPlant (suc p) (omega arith) plant (means .within .plants) in
+      let within = each-at (PlantWithin (countsOf period)) 1 (period .plants) p noPlant (suc p) (omega arith) plant (means .within .plants) in
       rw (plant-row-at means p plant)
       (row-entries 0 _
-      (plant-row-fits (length (period .segments)) (suc p) (getD (period .plants) p noPlant) (getD (stores period) p nowhere .amount)
+      (plant-row-fits (countsOf period) (suc p) (getD (period .plants) p noPlant) (getD (stores period) p nowhere .amount)
       (associated (period .lines) (accountsOf period) p) within (stored-most p plant) (associated-most p))))
 
   segments-fit : Entries segments
@@ -161,7 +164,7 @@ module _ {period : Period} {plants segments : List ℕ} (means : Means period pl
       let turn : Turn = turnAt period s in
       let sound = means .sound s below in
       let few : 2 ^ length (turn .standings) ≤ 2 ^ entryBits =
-      pow-mono {j = entryBits} (omega (arith, turn-plants period s below, means .within .most-plants)) in
+      pow-mono {j = entryBits} (omega (arith, turn-plants period s below, means .within .counts .most-plants)) in
       rw (segment-row-at means s below)
       (row-entries 0 _
       (segment-row-fits (a .inflow) (a .outflow) (a .emission) (a .plants) (sound .inflow) (sound .outflow) (emission-most segmentOwner (turn .own))

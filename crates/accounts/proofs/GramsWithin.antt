@@ -2,10 +2,11 @@
 -- its owner up to that line, so the last line of an owner answers for all its lines.
 use Prim.Native.Nat.{ℕ, _≤_}
 use mathlib.Core.List.{List}
-use Rattle.accounts.specs.Emissions.{mostGrams, gramsOf}
+use Rattle.accounts.specs.Emissions.{mostGrams, ownedBy, gramsOf}
 use Rattle.accounts.specs.Accepted.{Accepted, held}
 use Rattle.accounts.proofs.Accepting.{accepted-means}
 
 pub grams-within :
-    {file plants segments : List ℕ} → Accepted file plants segments → (ownerKind owner : ℕ) → gramsOf ownerKind owner (held file .lines) ≤ mostGrams
+    {file plants segments : List ℕ} → Accepted file plants segments → (ownerKind owner : ℕ) →
+    gramsOf (ownedBy ownerKind owner) (held file .lines) ≤ mostGrams
 grams-within given = accepted-means given .grams

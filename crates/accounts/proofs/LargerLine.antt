@@ -15,15 +15,17 @@ use Rattle.records.specs.Classes.{plantOwner, segmentOwner}
 use Rattle.records.specs.Lines.{lineOf}
 use Rattle.records.specs.Periods.{Period}
 use Rattle.accounts.specs.Emissions.{grams, ownedBy, gramsOf, gramsInKg, emission}
-use Rattle.accounts.specs.Walk.{nowhere, sum, Turn}
+use Rattle.accounts.specs.Sums.{sum}
+use Rattle.accounts.specs.Flow.{nowhere, Turn}
 use Rattle.accounts.specs.Accounts.{account, charges}
 use Rattle.accounts.specs.Rows.{kgInUnit, plantRow, associated}
 use Rattle.accounts.specs.Order.{plantNumbers}
-use Rattle.accounts.specs.Quantified.{walk, accountsOf, stores}
+use Rattle.accounts.specs.Quantified.{turnsOf, accountsOf, stores}
 use Rattle.accounts.specs.Accepted.{Accepted, held}
-use Rattle.accounts.specs.Tables.{inRow, unitsColumn}
+use Rattle.accounts.specs.RowsAndColumns.{inRow, unitsColumn}
 use Rattle.accounts.specs.Changes.{OneLineLarger}
 use Rattle.accounts.proofs.Credits.{div-mono}
+use Rattle.accounts.proofs.OwnersLines.{grams-with, grams-of-both}
 use Rattle.accounts.proofs.Charges.{charge-no-less}
 use Rattle.accounts.proofs.Accepting.{accepted-means}
 use Rattle.accounts.proofs.RowsAt.{plant-row-at}
@@ -31,18 +33,23 @@ use Rattle.accounts.proofs.RowsAt.{plant-row-at}
 -- ---- with one line's larger quantity, every owner's grams are no less
 grams-no-less :
     (ownerKind owner : ℕ) (before : List Line) (line : Line) (after : List Line) (quantity : ℕ) → line .quantity ≤ quantity →
-    gramsOf ownerKind owner (before ++ line ∷ after)
-    ≤ gramsOf ownerKind owner (before ++ lineOf (line .«owner_kind») (line .owner) (line .class) quantity (line .factor) ∷ after)
-unfolding gramsOf
-grams-no-less ownerKind owner [] line after quantity more = by-owner (ownedBy ownerKind owner line)
+    gramsOf (ownedBy ownerKind owner) (before ++ line ∷ after)
+    ≤ gramsOf (ownedBy ownerKind owner) (before ++ lineOf (line .«owner_kind») (line .owner) (line .class) quantity (line .factor) ∷ after)
+grams-no-less ownerKind owner before line after quantity more =
+    let its = ownedBy ownerKind owner in
+    let other = lineOf (line .«owner_kind») (line .owner) (line .class) quantity (line .factor) in
+    omega (
+      arith,
+      grams-of-both its before (line ∷ after),
+      grams-of-both its before (other ∷ after),
+      grams-with its line after,
+      grams-with its other after,
+      by-owner (its line),
+    )
   where
-    by-owner :
-        (its : Bool) →
-        cond its (grams line) 0 + gramsOf ownerKind owner after ≤ cond its (quantity * line .factor) 0 + gramsOf ownerKind owner after
-    by-owner true = omega (arith, mul-le-mul-right (line .factor) more)
+    by-owner : (its : Bool) → cond its (grams line) 0 ≤ cond its (quantity * line .factor) 0
+    by-owner true = mul-le-mul-right (line .factor) more
     by-owner false = omega arith
-grams-no-less ownerKind owner (other ∷ before) line after quantity more =
-    omega (arith, grams-no-less ownerKind owner before line after quantity more)
 
 module _ {one two : Period} (larger : OneLineLarger one two) where
   -- nor is any emission less
@@ -67,9 +74,9 @@ module _ {one two : Period} (larger : OneLineLarger one two) where
         charges-no-less index turns,
       )
 
-  -- the walk is the same, as it looks at no line; and so are the plants
-  walk-unchanged : walk two ≡ walk one
-  walk-unchanged = cc
+  -- the turns are the same, as they look at no line; and so are the plants
+  turns-unchanged : turnsOf two ≡ turnsOf one
+  turns-unchanged = cc
 
   stores-unchanged : stores two ≡ stores one
   stores-unchanged = cc
@@ -81,7 +88,7 @@ module _ {one two : Period} (larger : OneLineLarger one two) where
   associated-no-less : (index : ℕ) → associated (one .lines) (accountsOf one) index ≤ associated (two .lines) (accountsOf two) index
   unfolding accountsOf
   associated-no-less index =
-      rw walk-unchanged (omega (arith, emission-no-less plantOwner (suc index), charges-no-less index (walk one)))
+      rw turns-unchanged (omega (arith, emission-no-less plantOwner (suc index), charges-no-less index (turnsOf one)))
 
 -- ---- the units of a plant that stores the same, where no less is associated with it
 units-no-more :

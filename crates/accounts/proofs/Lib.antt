@@ -1,16 +1,16 @@
--- Laws of the definitions: sums and credits, charges, the sets of plants, the walk turn by turn, an owner's lines.
+-- Laws of the definitions: sums and credits, charges, the sets of plants, plants passed on from turn to turn, an owner's lines.
 pub mod Credits
 pub mod Charges
 mod Bits
 pub mod Sets
-pub mod Walks
+pub mod Passing
 pub mod AsExported
 pub mod OwnersLines
 -- Tests in their order; what acceptance means; the rows by their index, and the turns of a period.
 pub mod Testing
 pub mod Accepting
 pub mod RowsAt
-pub mod Turned
+pub mod TurnsOfPeriod
 -- What reading refuses is refused; a table with room for the most rows is answered as a longer one, and an accepted file's rows have room.
 pub mod Refused
 pub mod Room

@@ -3,9 +3,8 @@ use Prim.Native.Nat.{ℕ, _<_}
 use mathlib.Core.Path.{_≡_, ap}
 use mathlib.Core.List.{List}
 use lib.ListN.{take}
-use Rattle.records.specs.Fields.{Read}
-use Rattle.records.specs.Periods.{Period}
-use Rattle.records.specs.Longest.{mostBytes}
+use Rattle.fields.specs.Readers.{Read}
+use Rattle.records.specs.Periods.{Period, mostBytes}
 use Rattle.records.proofs.Longest.{cut}
 use Rattle.accounts.specs.Quantified.{afterReading, quantified}
 

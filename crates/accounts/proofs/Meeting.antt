@@ -17,15 +17,15 @@ use Rattle.records.specs.Plants.{noPlant}
 use Rattle.records.specs.Classes.{segmentOwner}
 use Rattle.records.specs.Periods.{Period}
 use Rattle.accounts.specs.Emissions.{ownedBy, chosen}
-use Rattle.accounts.specs.Walk.{Standing, nowhere, atFirst, passes, passed, Turn, arrived}
+use Rattle.accounts.specs.Flow.{Standing, nowhere, atFirst, passes, passed, Turn, arrived}
 use Rattle.accounts.specs.Accounts.{setOf, hasBit, account}
 use Rattle.accounts.specs.Quantified.{started}
 use Rattle.accounts.specs.Shares.{turnAt, accountAt}
 use Rattle.accounts.specs.Routes.{Leg, routeFrom, routeOf, maskOf, on, Apart, Alone}
 use Rattle.accounts.proofs.Bits.{NoneInBoth, no-common-bit, no-bit-above, one-bit, bits-of-sum}
 use Rattle.accounts.proofs.Sets.{set-has, set-below}
-use Rattle.accounts.proofs.Walks.{passed-at, passed-length}
-use Rattle.accounts.proofs.Turned.{turn-is, turn-plants}
+use Rattle.accounts.proofs.Passing.{passed-at, passed-length}
+use Rattle.accounts.proofs.TurnsOfPeriod.{turn-is, turn-plants}
 
 -- ---- a route from a segment's number on
 module _ (lines : List Line) where

@@ -4,22 +4,24 @@ use Prim.Native.Nat.{ℕ, zero, suc, _≤_, _<_}
 use mathlib.Core.Path.{_≡_}
 use mathlib.Core.List.{List, [], _∷_, _++_}
 use native.Mathlib.Omega.{arith}
-use lib.ListN.{length}
+use Rattle.fields.specs.declared.reason.Reason.the-variants.{BytesAfter, TooManyGrams}
+use Rattle.fields.specs.Readers.{Read, read, refused}
+use Rattle.fields.specs.Reasons.{numberOf}
 use Rattle.records.specs.declared.line.Line.{Line}
-use Rattle.records.specs.Refusals.{bytesAfter, tooManyGrams}
-use Rattle.records.specs.Fields.{Read, read, refused}
+use Rattle.records.specs.declared.counts.Counts.{Counts}
 use Rattle.records.specs.Periods.{Period}
+use Rattle.records.specs.Within.{countsOf}
 use Rattle.accounts.specs.Accounts.{Account}
 use Rattle.accounts.specs.Order.{refusal, Test, FirstFails, here, later, lineTests, segmentTests, tableTests}
 use Rattle.accounts.specs.Quantified.{accountsOf, rows, judged, afterReading, quantified}
-use Rattle.accounts.specs.Reasons.{plantCount, segmentCount, lineCount, periodAt, headerTests, plantTests, segmentFieldTests, lineFieldTests, endTest, testsOfEach, readingTests, allTests}
+use Rattle.accounts.specs.AllTests.{countsAt, periodAt, headerTests, plantTests, segmentFieldTests, lineFieldTests, endTest, testsOfEach, readingTests, allTests}
 use Rattle.accounts.proofs.Testing.{first-fails}
 use Rattle.accounts.proofs.Order.{refused-exactly}
 
 -- ---- tests of which none has a number below the least
 unfoldable FromLeast : ℕ → List Test → Type 0
 FromLeast least [] = Unit {0}
-FromLeast least (test ∷ tests) = (least ≤ test .number) × FromLeast least tests
+FromLeast least (test ∷ tests) = (least ≤ numberOf (test .reason)) × FromLeast least tests
 
 -- the first that fails has no number below it either
 first-from : {least number place : ℕ} {tests : List Test} → FirstFails tests number place → FromLeast least tests → least ≤ number
@@ -42,7 +44,7 @@ module _ (least : ℕ) where
   of-each tests each from (suc count) = both (tests from) (testsOfEach tests (suc from) count) (each from) (of-each tests each (suc from) count)
 
   -- ---- the tests that come after reading
-  module _ (few : least ≤ tooManyGrams) where
+  module _ (few : least ≤ numberOf TooManyGrams) where
     -- 10
     of-lines : (lines : List Line) (done : ℕ) (left : List Line) → FromLeast least (lineTests lines done left)
     unfolding FromLeast lineTests
@@ -57,11 +59,11 @@ module _ (least : ℕ) where
 
     -- and then 14 and 15
     after-reading :
-        (lines : List Line) (accounts : List Account) (plants segments plantTable segmentTable : ℕ) →
-        FromLeast least (lineTests lines 0 lines ++ (segmentTests accounts ++ tableTests plants segments plantTable segmentTable))
+        (lines : List Line) (accounts : List Account) (counts : Counts) (plantTable segmentTable : ℕ) →
+        FromLeast least (lineTests lines 0 lines ++ (segmentTests accounts ++ tableTests counts plantTable segmentTable))
     unfolding FromLeast
-    after-reading lines accounts plants segments plantTable segmentTable =
-        let tables = tableTests plants segments plantTable segmentTable in
+    after-reading lines accounts counts plantTable segmentTable =
+        let tables = tableTests counts plantTable segmentTable in
         both (lineTests lines 0 lines) (segmentTests accounts ++ tables) (of-lines lines 0 lines)
         (both (segmentTests accounts) tables (of-segments accounts) (omega (arith, few), (omega (arith, few), tt)))
 
@@ -88,13 +90,13 @@ module _ (file : List ℕ) where
   of-reading : FromLeast 1 (readingTests file)
   unfolding FromLeast readingTests
   of-reading =
-      let plants = testsOfEach (plantTests file) 0 (plantCount file) in
-      let segments = testsOfEach (segmentFieldTests file) 0 (segmentCount file) in
-      let lines = testsOfEach (lineFieldTests file) 0 (lineCount file) in
+      let plants = testsOfEach (plantTests file) 0 (countsAt file .plants) in
+      let segments = testsOfEach (segmentFieldTests file) 0 (countsAt file .segments) in
+      let lines = testsOfEach (lineFieldTests file) 0 (countsAt file .lines) in
       both 1 (headerTests file) (plants ++ (segments ++ (lines ++ endTest file ∷ []))) of-header
-      (both 1 plants (segments ++ (lines ++ endTest file ∷ [])) (of-each 1 (plantTests file) of-plant 0 (plantCount file))
-      (both 1 segments (lines ++ endTest file ∷ []) (of-each 1 (segmentFieldTests file) of-segment 0 (segmentCount file))
-      (both 1 lines (endTest file ∷ []) (of-each 1 (lineFieldTests file) of-line 0 (lineCount file)) (omega arith))))
+      (both 1 plants (segments ++ (lines ++ endTest file ∷ [])) (of-each 1 (plantTests file) of-plant 0 (countsAt file .plants))
+      (both 1 segments (lines ++ endTest file ∷ []) (of-each 1 (segmentFieldTests file) of-segment 0 (countsAt file .segments))
+      (both 1 lines (endTest file ∷ []) (of-each 1 (lineFieldTests file) of-line 0 (countsAt file .lines)) (omega arith))))
 
   -- so no refusal has it
   pub refusal-numbered :
@@ -103,16 +105,16 @@ module _ (file : List ℕ) where
   refusal-numbered plantTable segmentTable number place e =
       first-from (refused-exactly file plantTable segmentTable number place .0 e)
       (both 1 (readingTests file) _ of-reading
-      (after-reading 1 (omega arith) (periodAt file .lines) (accountsOf (periodAt file)) (plantCount file) (segmentCount file) plantTable segmentTable))
+      (after-reading 1 (omega arith) (periodAt file .lines) (accountsOf (periodAt file)) (countsAt file) plantTable segmentTable))
 
 -- ---- a refusal up to 9 is that of reading
 pub from-reading :
     (plantTable segmentTable number place : ℕ) (outcome : Read Period) → afterReading outcome plantTable segmentTable ≡ refusal number place →
-    number ≤ bytesAfter → outcome ≡ refused number place
+    number ≤ numberOf BytesAfter → outcome ≡ refused number place
 unfolding judged rows
 from-reading plantTable segmentTable number place (refused found at) e early = cc
 from-reading plantTable segmentTable number place (read period at rest) e early =
     let late =
     first-from (first-fails _ number place _ _ e)
-    (after-reading tooManyGrams (omega arith) (period .lines) (accountsOf period) (length (period .plants)) (length (period .segments)) plantTable segmentTable) in
+    (after-reading (numberOf TooManyGrams) (omega arith) (period .lines) (accountsOf period) (countsOf period) plantTable segmentTable) in
     absurd (omega (arith, early, late))

@@ -12,13 +12,13 @@ use Rattle.records.specs.declared.line.Line.{Line}
 use Rattle.records.specs.Classes.{plantOwner, segmentOwner}
 use Rattle.records.specs.Periods.{Period}
 use Rattle.accounts.specs.Emissions.{ownedBy, emission}
-use Rattle.accounts.specs.Walk.{Turn}
+use Rattle.accounts.specs.Flow.{Turn}
 use Rattle.accounts.specs.Accounts.{account}
 use Rattle.accounts.specs.Rows.{segmentRows}
 use Rattle.accounts.specs.Order.{plantNumbers}
-use Rattle.accounts.specs.Quantified.{started, walk, accountsOf, stores}
+use Rattle.accounts.specs.Quantified.{started, turnsOf, accountsOf, stores}
 use Rattle.accounts.specs.Accepted.{Accepted, held}
-use Rattle.accounts.specs.Tables.{rowAt}
+use Rattle.accounts.specs.RowsAndColumns.{rowAt}
 use Rattle.accounts.specs.Changes.{notOthers, OthersOwn}
 use Rattle.accounts.proofs.AsExported.{same-starts}
 use Rattle.accounts.proofs.OwnersLines.{owner-is, same-emission}
@@ -33,13 +33,13 @@ own-kept : (index : ℕ) (line : Line) → ownedBy plantOwner (suc index) line �
 own-kept index line its = rw its (or-true (eqb (line .«owner_kind») segmentOwner))
 
 module _ {index : ℕ} {one two : Period} (change : OthersOwn index one two) where
-  -- ---- the walk: every plant starts alike
+  -- ---- the turns: every plant starts alike
   starts-unchanged : started two ≡ started one
   starts-unchanged = same-starts (one .plants) (two .plants) (change .count) (change .exported) (change .first)
 
   -- and so do the amounts go, all the way
-  walk-unchanged : walk two ≡ walk one
-  walk-unchanged = cc (change .segments, starts-unchanged)
+  turns-unchanged : turnsOf two ≡ turnsOf one
+  turns-unchanged = cc (change .segments, starts-unchanged)
 
   stores-unchanged : stores two ≡ stores one
   stores-unchanged = cc (change .segments, starts-unchanged)
@@ -56,7 +56,7 @@ module _ {index : ℕ} {one two : Period} (change : OthersOwn index one two) whe
 
   accounts-unchanged : accountsOf two ≡ accountsOf one
   unfolding accountsOf
-  accounts-unchanged = ap (map (account (two .lines))) walk-unchanged ∙ map-congr-left {l = walk one} (λ turn member. account-unchanged turn)
+  accounts-unchanged = ap (map (account (two .lines))) turns-unchanged ∙ map-congr-left {l = turnsOf one} (λ turn member. account-unchanged turn)
 
 -- the plant's row does not change
 pub others-fraction-and-lines :

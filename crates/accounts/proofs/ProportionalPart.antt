@@ -9,19 +9,20 @@ use native.Mathlib.Omega.{arith}
 use lib.ListN.{length, getD}
 use borrow.Author.Tests.{ne-eqb}
 use Rattle.records.specs.Segments.{store, noSegment}
-use Rattle.records.specs.Within.{KindWithin}
+use Rattle.records.specs.Within.{countsOf, KindWithin}
 use Rattle.records.proofs.Within.{each-at, kind-without-next}
-use Rattle.accounts.specs.Walk.{Standing, nowhere, passes, sum, Turn}
+use Rattle.accounts.specs.Sums.{sum}
+use Rattle.accounts.specs.Flow.{Standing, nowhere, passes, Turn}
 use Rattle.accounts.specs.Order.{plantNumbers}
 use Rattle.accounts.specs.Quantified.{stores}
 use Rattle.accounts.specs.Accepted.{Accepted, held}
-use Rattle.accounts.specs.Tables.{inRow, storedColumn}
+use Rattle.accounts.specs.RowsAndColumns.{inRow, storedColumn}
 use Rattle.accounts.specs.Shares.{turnAt, entering, creditOf, Credited, SentOn}
 use Rattle.accounts.proofs.Credits.{credited-rounded, credited-most}
-use Rattle.accounts.proofs.Walks.{not-passed-at}
+use Rattle.accounts.proofs.Passing.{not-passed-at}
 use Rattle.accounts.proofs.Accepting.{accepted-means}
 use Rattle.accounts.proofs.RowsAt.{plant-row-at}
-use Rattle.accounts.proofs.Turned.{after, after-all, turn-is, turn-standings, turn-plants, turned, enters, sent, past-store, outflow-most}
+use Rattle.accounts.proofs.TurnsOfPeriod.{after, after-all, turn-is, turn-standings, turn-plants, turned, enters, sent, past-store, outflow-most}
 
 module _ {file plants segments : List ℕ} (given : Accepted file plants segments) where
   -- ---- at the turn of a segment
@@ -88,11 +89,10 @@ module _ {file plants segments : List ℕ} (given : Accepted file plants segment
       getD (held file .segments) s noSegment .kind ≡ store
   store-is s segment =
       let period = held file in
-      let count = length (period .segments) in
       kind-without-next
-      count (suc s) (getD (period .segments) s noSegment)
-      (each-at (KindWithin count) 1 (period .segments) s noSegment (suc s) (omega arith) segment (accepted-means given .within .kinds))
+      (countsOf period) (suc s) (getD (period .segments) s noSegment)
+      (each-at (KindWithin (countsOf period)) 1 (period .segments) s noSegment (suc s) (omega arith) segment (accepted-means given .within .kinds))
 
   -- and after the last segment every plant's CO2 is in one
   pub in-store : (p : ℕ) → p < length (held file .plants) → getD (stores (held file)) p nowhere .before ≡ 0
-  in-store = past-store (held file) (accepted-means given .within .plants) (accepted-means given .within .segments)
+  in-store = past-store (held file) (countsOf (held file)) refl (accepted-means given .within .plants) (accepted-means given .within .segments)

@@ -2,7 +2,7 @@
 use Prim.Native.Nat.{ℕ}
 use mathlib.Core.Path.{_≡_, ap}
 use mathlib.Core.List.{List}
-use Rattle.records.specs.Fields.{Read, refused}
+use Rattle.fields.specs.Readers.{Read, refused}
 use Rattle.records.specs.Periods.{Period, periodFile}
 use Rattle.accounts.specs.Order.{refusal}
 use Rattle.accounts.specs.Quantified.{afterReading, quantified}

@@ -7,10 +7,12 @@ use native.Mathlib.Omega.{arith}
 use lib.ListN.{length}
 use lib.Dec.{ltb}
 use borrow.Author.Tests.{lt-ltb, le-ltb, ltb-true, ltb-false}
+use Rattle.fields.specs.Readers.{Read, read, refused}
+use Rattle.records.specs.declared.counts.Counts.{Counts}
 use Rattle.records.specs.Plants.{mostPlants}
 use Rattle.records.specs.Segments.{mostSegments}
-use Rattle.records.specs.Fields.{Read, read, refused}
 use Rattle.records.specs.Periods.{Period, periodFile}
+use Rattle.records.specs.Within.{countsOf}
 use Rattle.records.proofs.Within.{read-within}
 use Rattle.accounts.specs.Order.{Test, tested, lineTests, segmentTests, plantNumbers, segmentNumbers, tableTests}
 use Rattle.accounts.specs.Quantified.{accountsOf, rows, judged, afterReading, quantified}
@@ -28,12 +30,12 @@ same-test table most need few = by-test (ltb table need) refl
 
 -- 14 and 15
 same-tests :
-    (plants segments plantTable segmentTable : ℕ) → plants ≤ mostPlants → segments ≤ mostSegments →
-    tableTests plants segments (min plantTable (plantNumbers * mostPlants)) (min segmentTable (segmentNumbers * mostSegments))
-    ≡ tableTests plants segments plantTable segmentTable
-same-tests plants segments plantTable segmentTable few-plants few-segments =
-    let p = same-test plantTable (plantNumbers * mostPlants) (plantNumbers * plants) (omega arith) in
-    let s = same-test segmentTable (segmentNumbers * mostSegments) (segmentNumbers * segments) (omega arith) in
+    (counts : Counts) (plantTable segmentTable : ℕ) → counts .plants ≤ mostPlants → counts .segments ≤ mostSegments →
+    tableTests counts (min plantTable (plantNumbers * mostPlants)) (min segmentTable (segmentNumbers * mostSegments))
+    ≡ tableTests counts plantTable segmentTable
+same-tests counts plantTable segmentTable few-plants few-segments =
+    let p = same-test plantTable (plantNumbers * mostPlants) (plantNumbers * counts .plants) (omega arith) in
+    let s = same-test segmentTable (segmentNumbers * mostSegments) (segmentNumbers * counts .segments) (omega arith) in
     cc
 
 -- the whole answer: a file that is read has no more than the most of either
@@ -53,7 +55,7 @@ room-enough file plantTable segmentTable = by-reading (periodFile file) refl
         ap
         (λ (tests : List Test).
         tested (lineTests (period .lines) 0 (period .lines) ++ (segmentTests (accountsOf period) ++ tests)) (rows period (accountsOf period)))
-        (same-tests (length (period .plants)) (length (period .segments)) plantTable segmentTable (within .most-plants) (within .most-segments))
+        (same-tests (countsOf period) plantTable segmentTable (within .counts .most-plants) (within .counts .most-segments))
 
 -- ---- an accepted file's numbers have room in its tables
 pub accepted-room :

@@ -10,15 +10,16 @@ use Rattle.records.specs.declared.plant.Plant.{Plant}
 use Rattle.records.specs.declared.line.Line.{Line}
 use Rattle.records.specs.Plants.{noPlant}
 use Rattle.records.specs.Periods.{Period}
-use Rattle.accounts.specs.Walk.{Standing, nowhere, atFirst, sum}
+use Rattle.accounts.specs.Sums.{sum}
+use Rattle.accounts.specs.Flow.{Standing, nowhere, atFirst}
 use Rattle.accounts.specs.Accounts.{Account}
 use Rattle.accounts.specs.Rows.{plantRow, associated, plantRows, segmentRow, segmentRows}
 use Rattle.accounts.specs.Order.{plantNumbers, segmentNumbers}
 use Rattle.accounts.specs.Quantified.{started, accountsOf, stores}
-use Rattle.accounts.specs.Tables.{rowAt, inRow, columnSum}
+use Rattle.accounts.specs.RowsAndColumns.{rowAt, inRow, columnSum}
 use Rattle.accounts.specs.Shares.{accountAt}
 use Rattle.accounts.proofs.Credits.{sum-snoc}
-use Rattle.accounts.proofs.Walks.{arrived-length}
+use Rattle.accounts.proofs.Passing.{arrived-length}
 use Rattle.accounts.proofs.Accepting.{Means, accounts-length, account-at}
 
 -- ---- rows one after another: the first, and those behind it

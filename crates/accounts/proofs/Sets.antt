@@ -9,7 +9,7 @@ use lib.Arith.{digits-div, digits-mod}
 use lib.Bits.{bitOr, or-step, or-shifted-r}
 use lib.Count.{ones, ones-step}
 use lib.ListN.{length, getD}
-use Rattle.accounts.specs.Walk.{Standing, nowhere, passes}
+use Rattle.accounts.specs.Flow.{Standing, nowhere, passes}
 use Rattle.accounts.specs.Accounts.{setOf, hasBit}
 use Rattle.accounts.proofs.Bits.{digit, digit-below, digit-tells, digit-of-either, higher-bit}
 

@@ -6,8 +6,9 @@ use lib.Dec.{eqb}
 use lib.ListN.{getD}
 use Rattle.records.specs.declared.line.Line.{Line}
 use Rattle.records.specs.Classes.{segmentOwner}
-use Rattle.accounts.specs.Emissions.{emission, roundedUp}
-use Rattle.accounts.specs.Walk.{Standing, passes, amounts, sum, Turn}
+use Rattle.accounts.specs.Emissions.{emission}
+use Rattle.accounts.specs.Sums.{sum, roundedUp}
+use Rattle.accounts.specs.Flow.{Standing, passes, amounts, Turn}
 
 -- A segment's account: A, D, E and the set of plants; and the amounts entering, plant by plant.
 pub record Account : Type 0 where

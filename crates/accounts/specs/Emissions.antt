@@ -1,17 +1,14 @@
 -- "Emissions of an owner."
-use Prim.Native.Nat.{ℕ, _+_, _-_, _*_, _/_}
+use Prim.Native.Nat.{ℕ, _*_}
 use mathlib.Core.Bool.{Bool, cond, _&&_}
-use mathlib.Core.List.{List, [], _∷_}
+use mathlib.Core.List.{List, [], _∷_, map}
 use lib.Dec.{eqb}
 use Rattle.records.specs.declared.line.Line.{Line}
+use Rattle.accounts.specs.Sums.{sum, roundedUp}
 
 -- "The total may be at most 4,000,000,000,000 g."
 abbrev pub mostGrams : ℕ
 mostGrams = 4_000_000_000_000
-
--- n / d rounded up; 0 where d is 0, as the library's n / 0 is
-abbrev pub roundedUp : ℕ → ℕ → ℕ
-roundedUp n d = (n + (d - 1)) / d
 
 -- "A line gives quantity times factor, in grams."
 abbrev pub grams : Line → ℕ
@@ -26,10 +23,9 @@ unfoldable pub chosen : (Line → Bool) → List Line → List Line
 chosen choose [] = []
 chosen choose (line ∷ lines) = cond (choose line) (line ∷ chosen choose lines) (chosen choose lines)
 
--- "An owner's lines are added over all classes"
-unfoldable pub gramsOf : ℕ → ℕ → List Line → ℕ
-gramsOf ownerKind owner [] = 0
-gramsOf ownerKind owner (line ∷ lines) = cond (ownedBy ownerKind owner line) (grams line) 0 + gramsOf ownerKind owner lines
+-- Their grams, added up.
+unfoldable pub gramsOf : (Line → Bool) → List Line → ℕ
+gramsOf choose lines = sum (map grams (chosen choose lines))
 
 -- "and the total is rounded up to a kg once, not line by line"
 abbrev pub gramsInKg : ℕ
@@ -38,6 +34,6 @@ gramsInKg = 1000
 abbrev pub inKg : ℕ → ℕ
 inKg total = roundedUp total gramsInKg
 
--- An owner's emission.
+-- An owner's emission: "An owner's lines are added over all classes".
 unfoldable pub emission : ℕ → ℕ → List Line → ℕ
-emission ownerKind owner lines = inKg (gramsOf ownerKind owner lines)
+emission ownerKind owner lines = inKg (gramsOf (ownedBy ownerKind owner) lines)

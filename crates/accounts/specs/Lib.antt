@@ -1,17 +1,18 @@
 -- The definitions of 01 for the accounts and the answer to a file, lowest first.
 
 -- the accounts
+pub mod Sums
 pub mod Emissions
-pub mod Walk
+pub mod Flow
 pub mod Accounts
 pub mod Rows
 -- the answer to a file
 pub mod Order
 pub mod Quantified
 -- what the theorems speak of
-pub mod Reasons
+pub mod AllTests
 pub mod Accepted
-pub mod Tables
+pub mod RowsAndColumns
 pub mod Shares
 pub mod Routes
 pub mod Changes

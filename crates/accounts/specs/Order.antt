@@ -6,30 +6,33 @@ use mathlib.Core.List.{List, [], _∷_}
 use lib.ListN.{take}
 use lib.Dec.{ltb, eqb}
 use Rattle.number.specs.Groups.{largest}
+use Rattle.fields.specs.declared.reason.Reason.{Reason}
+use Rattle.fields.specs.declared.reason.Reason.the-variants.{TooManyGrams, InflowTooLarge, OutflowOverInflow, EmissionWithoutInflow, PlantTableShort, SegmentTableShort}
+use Rattle.fields.specs.Reasons.{numberOf}
 use Rattle.records.specs.declared.line.Line.{Line}
-use Rattle.records.specs.Refusals.{tooManyGrams, inflowTooLarge, outflowOverInflow, emissionWithoutInflow, plantTableShort, segmentTableShort}
-use Rattle.accounts.specs.Emissions.{mostGrams, gramsOf}
+use Rattle.records.specs.declared.counts.Counts.{Counts}
+use Rattle.accounts.specs.Emissions.{mostGrams, ownedBy, gramsOf}
 use Rattle.accounts.specs.Accounts.{Account}
 
 -- Refused with number and place; or accepted, with the numbers of both tables.
-pub data Answer : Type 0 where
-  refusal : (number place : ℕ) → Answer
-  accepted : (plants segments : List ℕ) → Answer
+pub data Ruling : Type 0 where
+  refusal : (number place : ℕ) → Ruling
+  accepted : (plants segments : List ℕ) → Ruling
 
 -- A test that refuses a period where it fails.
 pub record Test : Type 0 where
   pub fails : Bool
-  pub number : ℕ
+  pub reason : Reason
   pub place : ℕ
 
--- The first test that fails gives the answer.
-unfoldable pub tested : List Test → Answer → Answer
-tested [] answer = answer
-tested (test ∷ tests) answer = cond (test .fails) (refusal (test .number) (test .place)) (tested tests answer)
+-- The first test that fails refuses.
+unfoldable pub tested : List Test → Ruling → Ruling
+tested [] ruling = ruling
+tested (test ∷ tests) ruling = cond (test .fails) (refusal (numberOf (test .reason)) (test .place)) (tested tests ruling)
 
 -- Which test that is: it fails, and none before it does.
 pub data FirstFails : List Test → (number place : ℕ) → Type 0 where
-  here : {test : Test} {tests : List Test} → test .fails ≡ true → FirstFails (test ∷ tests) (test .number) (test .place)
+  here : {test : Test} {tests : List Test} → test .fails ≡ true → FirstFails (test ∷ tests) (numberOf (test .reason)) (test .place)
   later :
       {test : Test} {tests : List Test} {number place : ℕ} → test .fails ≡ false → FirstFails tests number place →
       FirstFails (test ∷ tests) number place
@@ -44,8 +47,8 @@ unfoldable pub lineTests : List Line → (done : ℕ) → List Line → List Tes
 lineTests lines done [] = []
 lineTests lines done (line ∷ rest) =
     record {
-      fails = ltb mostGrams (gramsOf (line .«owner_kind») (line .owner) (take (suc done) lines));
-      number = tooManyGrams;
+      fails = ltb mostGrams (gramsOf (ownedBy (line .«owner_kind») (line .owner)) (take (suc done) lines));
+      reason = TooManyGrams;
       place = suc done;
     }
     ∷ lineTests lines (suc done) rest
@@ -54,9 +57,9 @@ lineTests lines done (line ∷ rest) =
 unfoldable pub segmentTests : List Account → List Test
 segmentTests [] = []
 segmentTests (a ∷ accounts) =
-    record { fails = ltb largest (a .inflow); number = inflowTooLarge; place = a .own }
-    ∷ record { fails = ltb (a .inflow) (a .outflow); number = outflowOverInflow; place = a .own }
-    ∷ record { fails = ltb 0 (a .emission) && eqb (a .inflow) 0; number = emissionWithoutInflow; place = a .own }
+    record { fails = ltb largest (a .inflow); reason = InflowTooLarge; place = a .own }
+    ∷ record { fails = ltb (a .inflow) (a .outflow); reason = OutflowOverInflow; place = a .own }
+    ∷ record { fails = ltb 0 (a .emission) && eqb (a .inflow) 0; reason = EmissionWithoutInflow; place = a .own }
     ∷ segmentTests accounts
 
 -- "Acceptance writes the first 8P and 5S numbers"
@@ -67,10 +70,10 @@ abbrev pub segmentNumbers : ℕ
 segmentNumbers = 5
 
 -- "Then 14, then 15."
-abbrev pub tableTests : (plants segments plantTable segmentTable : ℕ) → List Test
-tableTests plants segments plantTable segmentTable =
-    let plantsNeed = plantNumbers * plants in
-    let segmentsNeed = segmentNumbers * segments in
-    record { fails = ltb plantTable plantsNeed; number = plantTableShort; place = plantsNeed }
-    ∷ record { fails = ltb segmentTable segmentsNeed; number = segmentTableShort; place = segmentsNeed }
+abbrev pub tableTests : Counts → (plantTable segmentTable : ℕ) → List Test
+tableTests counts plantTable segmentTable =
+    let plantsNeed = plantNumbers * counts .plants in
+    let segmentsNeed = segmentNumbers * counts .segments in
+    record { fails = ltb plantTable plantsNeed; reason = PlantTableShort; place = plantsNeed }
+    ∷ record { fails = ltb segmentTable segmentsNeed; reason = SegmentTableShort; place = segmentsNeed }
     ∷ []

@@ -15,7 +15,7 @@ use Rattle.records.specs.Periods.{Period}
 use Rattle.accounts.specs.Emissions.{ownedBy, chosen}
 use Rattle.accounts.specs.Accounts.{hasBit}
 use Rattle.accounts.specs.Order.{segmentNumbers}
-use Rattle.accounts.specs.Tables.{inRow, setColumn}
+use Rattle.accounts.specs.RowsAndColumns.{inRow, setColumn}
 
 -- A segment of a route: its number, its record and its lines.
 pub record Leg : Type 0 where

@@ -6,7 +6,7 @@ use Rattle.records.specs.declared.line.Line.{Line}
 use Rattle.records.specs.Plants.{millionths}
 use Rattle.records.specs.Classes.{plantOwner}
 use Rattle.accounts.specs.Emissions.{emission}
-use Rattle.accounts.specs.Walk.{Standing}
+use Rattle.accounts.specs.Flow.{Standing}
 use Rattle.accounts.specs.Accounts.{Account, charges}
 
 -- "units = floor(net / 1000), one unit a tonne"

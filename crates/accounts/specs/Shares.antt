@@ -9,10 +9,11 @@ use Rattle.records.specs.declared.line.Line.{Line}
 use Rattle.records.specs.Segments.{noSegment}
 use Rattle.records.specs.Classes.{plantOwner}
 use Rattle.records.specs.Periods.{Period}
-use Rattle.accounts.specs.Emissions.{roundedUp, emission}
-use Rattle.accounts.specs.Walk.{Standing, nowhere, passes, amounts, sum, credits, passed, Turn}
+use Rattle.accounts.specs.Emissions.{emission}
+use Rattle.accounts.specs.Sums.{sum, roundedUp}
+use Rattle.accounts.specs.Flow.{Standing, nowhere, passes, amounts, credits, passed, Turn}
 use Rattle.accounts.specs.Accounts.{Account, account, charge}
-use Rattle.accounts.specs.Quantified.{walk}
+use Rattle.accounts.specs.Quantified.{turnsOf}
 
 -- what a list of turns holds where it holds none
 abbrev pub noTurn : Turn
@@ -20,7 +21,7 @@ noTurn = record { own = 0; segment = noSegment; standings = [] }
 
 -- the turn of the segment at an index from 0
 abbrev pub turnAt : Period → ℕ → Turn
-turnAt period index = getD (walk period) index noTurn
+turnAt period index = getD (turnsOf period) index noTurn
 
 -- its account
 abbrev pub accountAt : Period → ℕ → Account

@@ -9,20 +9,20 @@ use native.Mathlib.Nat.{pow-suc, div-lt-iff-lt-mul, div-mul-le-self, mod-add-div
 use native.Mathlib.Omega.{arith}
 use lib.ListN.{length, drop, length-append, length-drop}
 use lib.Seq.{take-at, drop-at, drop-drop}
-use Rattle.records.specs.declared.answer.Answer.the-variants.{Accepted as Accepts}
-use Rattle.records.specs.Answers.{accepts, numberOf, placeOf}
-use Rattle.accounts.specs.Tables.{entryBits, Entries}
-use Rattle.accounts.specs.Order.{Answer, refusal, accepted, Test, FirstFails, NoneFails}
+use Rattle.fields.specs.declared.answer.Answer.the-variants.{Accepted as AcceptedAnswer}
+use Rattle.fields.specs.Answers.{accepts, refusalNumber, refusalPlace}
+use Rattle.accounts.specs.RowsAndColumns.{entryBits, Entries}
+use Rattle.accounts.specs.Order.{Ruling, refusal, accepted, Test, FirstFails, NoneFails}
 use Rattle.accounts.specs.Quantified.{rows, quantified}
-use Rattle.accounts.specs.Reasons.{allTests}
+use Rattle.accounts.specs.AllTests.{allTests}
 use Rattle.accounts.specs.Accepted.{Accepted}
 use Rattle.accounts.proofs.Room.{accepted-room}
 use Rattle.accounts.proofs.Fits.{rows-fit}
 use Rattle.accounts.proofs.Order.{refused-exactly, accepted-is, accepted-exactly}
 use Rattle.accounts.proofs.Numbered.{refusal-numbered}
 use Rattle.period.specs.declared.call.Quantified.{Quantified}
-use Rattle.period.specs.Written.{verdictOf, overwritten, plantsAfter, segmentsAfter, plantsWritten, segmentsWritten, Answers, Promised as PromisedNumbers, Left}
-use Rattle.historian.specs.Tables.{numberBytes, byteValues, wholeNumbers, bytesOf, eightBytes, valueOf, firstNumbers, numbersOf, answerTo, bytesOverwritten, plantBytesAfter, segmentBytesAfter, Outcome, Promised}
+use Rattle.period.specs.Written.{Lent, lent, rulingVerdict, plantEntries, segmentEntries, overwritten, HandsBack, QuantifyPromise, Left}
+use Rattle.historian.specs.Tables.{numberBytes, byteValues, wholeNumbers, bytesOf, eightBytes, valueOf, firstNumbers, tableNumbers, entryRuling, bytesOverwritten, Outcome, EntryPromise}
 use Rattle.historian.proofs.Bytes.{length-bytes, length-all}
 
 -- ---- one number: what is written is read back
@@ -77,7 +77,7 @@ numbers-behind (suc n) left (suc count) table is =
 -- so numbers that are written over a table that has room for them are written over its numbers
 pub numbers-overwritten :
     (numbers table : List ℕ) → Entries numbers → length numbers ≤ wholeNumbers table →
-    numbersOf (bytesOverwritten numbers table) ≡ overwritten numbers (numbersOf table)
+    tableNumbers (bytesOverwritten numbers table) ≡ overwritten numbers (tableNumbers table)
 numbers-overwritten numbers table fit room =
     let n : ℕ = length numbers in
     let count : ℕ = wholeNumbers table in
@@ -90,105 +90,111 @@ numbers-overwritten numbers table fit room =
     ∙ numbers-in-front numbers behind left count fit (omega (arith, room))
     ∙ ap (λ (rest : List ℕ). numbers ++ rest) (numbers-behind n left count table (omega (arith, room)))
 
--- ---- a result other than 0 and a place tell the answer
+-- ---- a result other than 0 and a place tell the ruling
 refusal-told :
-    (answer : Answer) (number place : ℕ) → 0 < number → numberOf (verdictOf answer) ≡ number → placeOf (verdictOf answer) ≡ place →
-    answer ≡ refusal number place
+    (ruling : Ruling) (number place : ℕ) → 0 < number → refusalNumber (rulingVerdict ruling) ≡ number → refusalPlace (rulingVerdict ruling) ≡ place →
+    ruling ≡ refusal number place
 refusal-told (refusal number' place') number place some is at = ap₂ refusal is at
 refusal-told (accepted plants segments) number place some is at = absurd (omega (arith, some, is))
 
 -- ---- the caller's tables, before and after
-module _ {file plants segments : List ℕ} {outcome : Outcome} (promised : Promised file plants segments outcome) where
-  -- the answer to the file, with the caller's tables
-  abbrev answer : Answer
-  answer = answerTo file plants segments
+module _ {file plants segments : List ℕ} {outcome : Outcome} (promised : EntryPromise file plants segments outcome) where
+  -- the ruling on the file, with the caller's tables
+  abbrev ruling : Ruling
+  ruling = entryRuling file plants segments
 
   -- 01's tests of the file and of the tables' whole numbers
   abbrev tests : List Test
   tests = allTests file (wholeNumbers plants) (wholeNumbers segments)
 
-  -- tables of so many numbers get the same answer
-  same-answer : quantified file (length (numbersOf plants)) (length (numbersOf segments)) ≡ answer
-  same-answer = ap₂ (quantified file) (first-length (wholeNumbers plants) plants) (first-length (wholeNumbers segments) segments)
+  -- with tables of so many numbers it is the same
+  same-ruling : quantified file (length (tableNumbers plants)) (length (tableNumbers segments)) ≡ ruling
+  same-ruling = ap₂ (quantified file) (first-length (wholeNumbers plants) plants) (first-length (wholeNumbers segments) segments)
 
-  -- the file is accepted with tables of so many numbers
-  abbrev given :
-      {plant-numbers segment-numbers : List ℕ} → answer ≡ accepted plant-numbers segment-numbers → Accepted file plant-numbers segment-numbers
-  given is = record { plantTable = wholeNumbers plants; segmentTable = wholeNumbers segments; answer = is }
+  -- the numbers of an accepted file are 64-bit numbers, and each table has room for them; a refusal has none
+  tables-read :
+      (a : Ruling) → ruling ≡ a →
+      (tableNumbers (bytesOverwritten (plantEntries a) plants) ≡ overwritten (plantEntries a) (tableNumbers plants))
+      × (tableNumbers (bytesOverwritten (segmentEntries a) segments) ≡ overwritten (segmentEntries a) (tableNumbers segments))
+  unfolding flatMap
+  tables-read (refusal number place) is = (refl, refl)
+  tables-read (accepted plant-numbers segment-numbers) is =
+      let given : Accepted file plant-numbers segment-numbers =
+      record { plantTable = wholeNumbers plants; segmentTable = wholeNumbers segments; answer = is } in
+      let fit = rows-fit given in
+      let room = accepted-room given in
+      (numbers-overwritten plant-numbers plants (fit .0) (room .0), numbers-overwritten segment-numbers segments (fit .1) (room .1))
 
-  -- its numbers are 64-bit numbers, and each table has room for them
-  plants-read : (a : Answer) → answer ≡ a → numbersOf (plantBytesAfter a plants) ≡ plantsAfter a (numbersOf plants)
-  plants-read (refusal number place) is = refl
-  plants-read (accepted plant-numbers segment-numbers) is =
-      numbers-overwritten plant-numbers plants (rows-fit (given is) .0) (accepted-room (given is) .0)
+  -- the tables as numbers, before and after
+  abbrev before : Lent
+  before = lent (tableNumbers plants) (tableNumbers segments)
 
-  segments-read : (a : Answer) → answer ≡ a → numbersOf (segmentBytesAfter a segments) ≡ segmentsAfter a (numbersOf segments)
-  segments-read (refusal number place) is = refl
-  segments-read (accepted plant-numbers segment-numbers) is =
-      numbers-overwritten segment-numbers segments (rows-fit (given is) .1) (accepted-room (given is) .1)
+  abbrev after : Lent
+  after = lent (tableNumbers (outcome .plants)) (tableNumbers (outcome .segments))
 
-  -- they meet the promise of the call below, with whatever it hands back for this answer
-  pub numbers-promised :
-      (told : Quantified) → Answers told answer →
-      PromisedNumbers file (numbersOf plants) (numbersOf segments) told (numbersOf (outcome .plants)) (numbersOf (outcome .segments))
-  numbers-promised told answers = record {
-    answers = rw same-answer answers;
-    plants-after = rw same-answer (ap numbersOf (promised .plants-after) ∙ plants-read answer refl);
-    segments-after = rw same-answer (ap numbersOf (promised .segments-after) ∙ segments-read answer refl);
-  }
+  -- they meet the promise of the call below, with whatever it hands back for this ruling
+  pub numbers-promised : (told : Quantified) → HandsBack told ruling → QuantifyPromise file before told after
+  numbers-promised told hands-back =
+      let read = tables-read ruling refl in
+      record {
+        hands-back = rw same-ruling hands-back;
+        leaves = rw same-ruling (ap₂ lent (ap tableNumbers (promised .plants-after) ∙ read .0) (ap tableNumbers (promised .segments-after) ∙ read .1));
+      }
 
   -- a result other than 0, with a place: that is the first test that fails
   pub refused-exactly-bytes :
       (number place : ℕ) → 0 < number → ((outcome .result ≡ number) × (outcome .place ≡ place)) ↔ FirstFails tests number place
   refused-exactly-bytes number place some =
       let exactly = refused-exactly file (wholeNumbers plants) (wholeNumbers segments) number place in (
-        λ told. exactly .0 (refusal-told answer number place some (sym (promised .result) ∙ told .0) (sym (promised .place) ∙ told .1)),
+        λ told. exactly .0 (refusal-told ruling number place some (sym (promised .result) ∙ told .0) (sym (promised .place) ∙ told .1)),
         λ first. (
-          promised .result ∙ ap (λ (a : Answer). numberOf (verdictOf a)) (exactly .1 first),
-          promised .place ∙ ap (λ (a : Answer). placeOf (verdictOf a)) (exactly .1 first),
+          promised .result ∙ ap (λ (a : Ruling). refusalNumber (rulingVerdict a)) (exactly .1 first),
+          promised .place ∙ ap (λ (a : Ruling). refusalPlace (rulingVerdict a)) (exactly .1 first),
         ),
       )
 
   -- "A refusal .. writes neither table."
   pub untouched-bytes : (outcome .result ≡ 0 → ⊥) → (outcome .plants ≡ plants) × (outcome .segments ≡ segments)
+  unfolding flatMap
   untouched-bytes refused =
-      let same = by-answer answer (λ none. refused (promised .result ∙ none)) in
+      let same = by-ruling ruling (λ none. refused (promised .result ∙ none)) in
       (promised .plants-after ∙ same .0, promised .segments-after ∙ same .1)
     where
-      by-answer :
-          (a : Answer) → (numberOf (verdictOf a) ≡ 0 → ⊥) → (plantBytesAfter a plants ≡ plants) × (segmentBytesAfter a segments ≡ segments)
-      by-answer (refusal number place) some = (refl, refl)
-      by-answer (accepted plant-numbers segment-numbers) some = absurd (some refl)
+      by-ruling :
+          (a : Ruling) → (refusalNumber (rulingVerdict a) ≡ 0 → ⊥) →
+          (bytesOverwritten (plantEntries a) plants ≡ plants) × (bytesOverwritten (segmentEntries a) segments ≡ segments)
+      by-ruling (refusal number place) some = (refl, refl)
+      by-ruling (accepted plant-numbers segment-numbers) some = absurd (some refl)
 
-  -- where no test fails the answer is an acceptance
-  passed-accepts : NoneFails tests → verdictOf answer ≡ accepts
+  -- where no test fails the ruling is an acceptance
+  passed-accepts : NoneFails tests → rulingVerdict ruling ≡ accepts
   unfolding rows
-  passed-accepts none = ap verdictOf (accepted-exactly file (wholeNumbers plants) (wholeNumbers segments) .1 none)
+  passed-accepts none = ap rulingVerdict (accepted-exactly file (wholeNumbers plants) (wholeNumbers segments) .1 none)
 
   -- the result is 0 exactly where none fails
   pub accepted-exactly-bytes : (outcome .result ≡ 0) ↔ NoneFails tests
   accepted-exactly-bytes = (
-    λ none. by-answer answer refl (sym (promised .result) ∙ none),
-    λ none. promised .result ∙ ap numberOf (passed-accepts none),
+    λ none. by-ruling ruling refl (sym (promised .result) ∙ none),
+    λ none. promised .result ∙ ap refusalNumber (passed-accepts none),
   )
     where
-      by-answer : (a : Answer) → answer ≡ a → numberOf (verdictOf a) ≡ 0 → NoneFails tests
-      by-answer (refusal number place) is none =
+      by-ruling : (a : Ruling) → ruling ≡ a → refusalNumber (rulingVerdict a) ≡ 0 → NoneFails tests
+      by-ruling (refusal number place) is none =
           absurd (omega (arith, refusal-numbered file (wholeNumbers plants) (wholeNumbers segments) number place is, none))
-      by-answer (accepted plant-numbers segment-numbers) is none =
+      by-ruling (accepted plant-numbers segment-numbers) is none =
           accepted-is file (wholeNumbers plants) (wholeNumbers segments) plant-numbers segment-numbers is
 
   -- so it is 0 only where the file is accepted
-  pub accepted-told : outcome .result ≡ 0 → verdictOf answer ≡ accepts
+  pub accepted-told : outcome .result ≡ 0 → rulingVerdict ruling ≡ accepts
   accepted-told none = passed-accepts (accepted-exactly-bytes .0 none)
 
   -- and then they are left as an accepting call leaves tables of numbers, so that all its theorems hold of them
-  pub left-in-bytes : outcome .result ≡ 0 → Left file (numbersOf (outcome .plants)) (numbersOf (outcome .segments))
+  pub left-in-bytes : outcome .result ≡ 0 → Left file (after .plants) (after .segments)
   left-in-bytes none =
-      let told : Quantified = record { answer = Accepts; «plant_numbers» = plantsWritten answer; «segment_numbers» = segmentsWritten answer } in
+      let told : Quantified =
+      record { answer = AcceptedAnswer; «plant_numbers» = length (plantEntries ruling); «segment_numbers» = length (segmentEntries ruling) } in
       record {
-        plants-before = numbersOf plants;
-        segments-before = numbersOf segments;
+        before = before;
         told = told;
         promised = numbers-promised told (record { verdict = sym (accepted-told none); plants = refl; segments = refl });
         accepting = refl;

@@ -2,14 +2,14 @@
 use Prim.Native.Nat.{ℕ}
 use mathlib.Core.Path.{_≡_, sym, ap, _∙_}
 use mathlib.Core.List.{List}
-use Rattle.historian.specs.Tables.{Outcome, Promised}
+use Rattle.historian.specs.Tables.{Outcome, EntryPromise}
 
 -- an outcome by its parts
 abbrev made : (result place : ℕ) (plants segments : List ℕ) → Outcome
 made result place plants segments = record { result = result; place = place; plants = plants; segments = segments }
 
 -- `steeplecuff_quantify`: two outcomes that meet its promise, of one file and the same tables, are the same
-pub one-outcome : (file plants segments : List ℕ) (a b : Outcome) → Promised file plants segments a → Promised file plants segments b → a ≡ b
+pub one-outcome : (file plants segments : List ℕ) (a b : Outcome) → EntryPromise file plants segments a → EntryPromise file plants segments b → a ≡ b
 one-outcome file plants segments a b p q =
     ap (λ (x : ℕ). made x (a .place) (a .plants) (a .segments)) (p .result ∙ sym (q .result))
     ∙ ap (λ (x : ℕ). made (b .result) x (a .plants) (a .segments)) (p .place ∙ sym (q .place))

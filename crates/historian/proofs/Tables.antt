@@ -1,27 +1,27 @@
 -- The tables of numbers that are lent to the call below: what they hold when they come back, and so what the historian's tables hold.
 use Prim.Native.Nat.{ℕ, _*_, _≤_, min}
-use mathlib.Core.Path.{_≡_, refl, sym, ap, _∙_}
-use mathlib.Core.List.{List, [], _++_, append-assoc, flatMap}
+use mathlib.Core.Path.{_≡_, sym, ap, _∙_}
+use mathlib.Core.List.{List, _++_, append-assoc, flatMap}
 use native.Mathlib.Omega.{arith}
 use lib.ListN.{length, take, drop, replicate, length-append, length-drop, length-replicate}
 use lib.Seq.{length-take-le, length-front, take-at}
 use Rattle.records.specs.Plants.{mostPlants}
 use Rattle.records.specs.Segments.{mostSegments}
-use Rattle.accounts.specs.Order.{Answer, refusal, accepted, plantNumbers, segmentNumbers}
+use Rattle.accounts.specs.Order.{plantNumbers, segmentNumbers}
 use Rattle.accounts.specs.Quantified.{quantified}
 use Rattle.accounts.proofs.Room.{room-enough}
-use Rattle.period.specs.Written.{overwritten, plantsAfter, segmentsAfter, plantsWritten, segmentsWritten}
-use Rattle.historian.specs.Tables.{numberBytes, eightBytes, wholeNumbers, answerTo, bytesOverwritten, plantBytesAfter, segmentBytesAfter}
+use Rattle.period.specs.Written.{overwritten}
+use Rattle.historian.specs.Tables.{numberBytes, eightBytes, wholeNumbers, entryRuling, bytesOverwritten}
 
 -- ---- a table is lent: the part with room for so many numbers, of one that has the most
 abbrev zeros : ℕ → List ℕ
 zeros most = replicate most 0
 
-abbrev pub lent : (most room : ℕ) → List ℕ
-lent most room = take room (zeros most)
+abbrev pub lentPart : (most room : ℕ) → List ℕ
+lentPart most room = take room (zeros most)
 
 -- it has just that room
-pub lent-length : (most room : ℕ) → room ≤ most → length (lent most room) ≡ room
+pub lent-length : (most room : ℕ) → room ≤ most → length (lentPart most room) ≡ room
 lent-length most room fits = length-take-le room (zeros most) (omega (arith, length-replicate {A = ℕ} most 0))
 
 -- the most numbers of each table
@@ -31,21 +31,21 @@ mostPlantNumbers = plantNumbers * mostPlants
 abbrev pub mostSegmentNumbers : ℕ
 mostSegmentNumbers = segmentNumbers * mostSegments
 
--- the call answers as with tables as long as the historian's
-pub same-answer :
+-- the ruling is that with tables as long as the historian's
+pub same-ruling :
     (file plants segments : List ℕ) (plantRoom segmentRoom : ℕ) →
     plantRoom ≡ min (wholeNumbers plants) mostPlantNumbers → segmentRoom ≡ min (wholeNumbers segments) mostSegmentNumbers →
-    quantified file (length (lent mostPlantNumbers plantRoom)) (length (lent mostSegmentNumbers segmentRoom)) ≡ answerTo file plants segments
-same-answer file plants segments plantRoom segmentRoom p s =
-    ap (λ (n : ℕ). quantified file n (length (lent mostSegmentNumbers segmentRoom))) (lent-length mostPlantNumbers plantRoom (omega arith) ∙ p)
+    quantified file (length (lentPart mostPlantNumbers plantRoom)) (length (lentPart mostSegmentNumbers segmentRoom)) ≡ entryRuling file plants segments
+same-ruling file plants segments plantRoom segmentRoom p s =
+    ap (λ (n : ℕ). quantified file n (length (lentPart mostSegmentNumbers segmentRoom))) (lent-length mostPlantNumbers plantRoom (omega arith) ∙ p)
     ∙ ap (quantified file (min (wholeNumbers plants) mostPlantNumbers)) (lent-length mostSegmentNumbers segmentRoom (omega arith) ∙ s)
     ∙ room-enough file (wholeNumbers plants) (wholeNumbers segments)
 
 -- ---- it comes back, with so many numbers written over what stood in it
 pub record Back (numbers : List ℕ) (most room : ℕ) (last : List ℕ) (count : ℕ) : Type 0 where
   pub fits : room ≤ most
-  pub kept : length last ≡ length (lent most room)
-  pub after : last ≡ overwritten numbers (lent most room)
+  pub kept : length last ≡ length (lentPart most room)
+  pub after : last ≡ overwritten numbers (lentPart most room)
   pub counted : count ≡ length numbers
 
 -- the whole table then, with the part that was not lent
@@ -56,8 +56,8 @@ module _ {numbers : List ℕ} {most room : ℕ} {last : List ℕ} {count : ℕ} 
   -- there was room for them
   pub within-room : count ≤ room
   within-room =
-      let all = ap length (back .after) ∙ length-append numbers (drop (length numbers) (lent most room)) in
-      omega (arith, back, all, length-drop (length numbers) (lent most room), lent-length most room (back .fits))
+      let all = ap length (back .after) ∙ length-append numbers (drop (length numbers) (lentPart most room)) in
+      omega (arith, back, all, length-drop (length numbers) (lentPart most room), lent-length most room (back .fits))
 
   -- it is as long as before
   pub whole-length : length (whole most room last) ≡ most
@@ -67,45 +67,10 @@ module _ {numbers : List ℕ} {most room : ℕ} {last : List ℕ} {count : ℕ} 
   pub bytes-after :
       (table : List ℕ) → flatMap eightBytes (take count (whole most room last)) ++ drop (numberBytes * count) table ≡ bytesOverwritten numbers table
   bytes-after table =
-      let rest : List ℕ = drop (length numbers) (lent most room) in
+      let rest : List ℕ = drop (length numbers) (lentPart most room) in
       let taken : take count (whole most room last) ≡ numbers =
       ap (λ (l : List ℕ). take count (l ++ drop room (zeros most))) (back .after)
       ∙ ap (take count) (append-assoc numbers rest (drop room (zeros most)))
       ∙ take-at numbers (rest ++ drop room (zeros most)) count (sym (back .counted)) in
       ap (λ (l : List ℕ). flatMap eightBytes l ++ drop (numberBytes * count) table) taken
       ∙ ap (λ (k : ℕ). flatMap eightBytes numbers ++ drop (numberBytes * k) table) (back .counted)
-
--- ---- the numbers that an answer has for each table: a refusal has none
-abbrev pub plantsOf : Answer → List ℕ
-plantsOf (refusal number place) = []
-plantsOf (accepted plants segments) = plants
-
-abbrev pub segmentsOf : Answer → List ℕ
-segmentsOf (refusal number place) = []
-segmentsOf (accepted plants segments) = segments
-
--- with just these written over it a table comes back
-module _ {most room : ℕ} {last : List ℕ} {count : ℕ} (fits : room ≤ most) (kept : length last ≡ length (lent most room)) where
-  abbrev came-back : {numbers : List ℕ} → last ≡ overwritten numbers (lent most room) → count ≡ length numbers → Back numbers most room last count
-  came-back after counted = record { fits = fits; kept = kept; after = after; counted = counted }
-
-  pub plants-back :
-      (answer : Answer) → last ≡ plantsAfter answer (lent most room) → count ≡ plantsWritten answer → Back (plantsOf answer) most room last count
-  plants-back (refusal number place) after counted = came-back after counted
-  plants-back (accepted plants segments) after counted = came-back after counted
-
-  pub segments-back :
-      (answer : Answer) → last ≡ segmentsAfter answer (lent most room) → count ≡ segmentsWritten answer → Back (segmentsOf answer) most room last count
-  segments-back (refusal number place) after counted = came-back after counted
-  segments-back (accepted plants segments) after counted = came-back after counted
-
--- and the historian's table is left with just these
-pub plant-bytes : (answer : Answer) (table : List ℕ) → bytesOverwritten (plantsOf answer) table ≡ plantBytesAfter answer table
-unfolding flatMap
-plant-bytes (refusal number place) table = refl
-plant-bytes (accepted plants segments) table = refl
-
-pub segment-bytes : (answer : Answer) (table : List ℕ) → bytesOverwritten (segmentsOf answer) table ≡ segmentBytesAfter answer table
-unfolding flatMap
-segment-bytes (refusal number place) table = refl
-segment-bytes (accepted plants segments) table = refl

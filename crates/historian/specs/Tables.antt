@@ -4,10 +4,10 @@ use Prim.Native.Nat.{ℕ, zero, suc, _+_, _*_, _/_, _%_}
 use mathlib.Core.Path.{_≡_}
 use mathlib.Core.List.{List, [], _∷_, _++_, flatMap}
 use lib.ListN.{length, take, drop}
-use Rattle.records.specs.Answers.{numberOf, placeOf}
-use Rattle.accounts.specs.Order.{Answer, refusal, accepted}
+use Rattle.fields.specs.Answers.{refusalNumber, refusalPlace}
+use Rattle.accounts.specs.Order.{Ruling}
 use Rattle.accounts.specs.Quantified.{quantified}
-use Rattle.period.specs.Written.{verdictOf}
+use Rattle.period.specs.Written.{rulingVerdict, plantEntries, segmentEntries}
 
 -- The bytes of a number, and the values that a byte has.
 abbrev pub numberBytes : ℕ
@@ -39,25 +39,16 @@ unfoldable pub firstNumbers : ℕ → List ℕ → List ℕ
 firstNumbers zero table = []
 firstNumbers (suc count) table = valueOf (take numberBytes table) ∷ firstNumbers count (drop numberBytes table)
 
-abbrev pub numbersOf : List ℕ → List ℕ
-numbersOf table = firstNumbers (wholeNumbers table) table
+abbrev pub tableNumbers : List ℕ → List ℕ
+tableNumbers table = firstNumbers (wholeNumbers table) table
 
--- The answer to a file, with these tables.
-abbrev pub answerTo : (file plants segments : List ℕ) → Answer
-answerTo file plants segments = quantified file (wholeNumbers plants) (wholeNumbers segments)
+-- The ruling on a file, with these tables.
+abbrev pub entryRuling : (file plants segments : List ℕ) → Ruling
+entryRuling file plants segments = quantified file (wholeNumbers plants) (wholeNumbers segments)
 
 -- "Acceptance writes the first .. numbers; later entries stay as they were", and so do spare bytes.
 abbrev pub bytesOverwritten : (numbers table : List ℕ) → List ℕ
 bytesOverwritten numbers table = flatMap eightBytes numbers ++ drop (numberBytes * length numbers) table
-
--- "and writes neither table"
-abbrev pub plantBytesAfter : Answer → List ℕ → List ℕ
-plantBytesAfter (refusal number place) table = table
-plantBytesAfter (accepted plants segments) table = bytesOverwritten plants table
-
-abbrev pub segmentBytesAfter : Answer → List ℕ → List ℕ
-segmentBytesAfter (refusal number place) table = table
-segmentBytesAfter (accepted plants segments) table = bytesOverwritten segments table
 
 -- What a call leaves to its caller.
 pub record Outcome : Type 0 where
@@ -67,8 +58,8 @@ pub record Outcome : Type 0 where
   pub segments : List ℕ
 
 -- The promise of the call: the number of refusal and the place, 0 and 0 where the file is accepted, and the tables.
-pub record Promised (file plants segments : List ℕ) (outcome : Outcome) : Type 0 where
-  pub result : outcome .result ≡ numberOf (verdictOf (answerTo file plants segments))
-  pub place : outcome .place ≡ placeOf (verdictOf (answerTo file plants segments))
-  pub plants-after : outcome .plants ≡ plantBytesAfter (answerTo file plants segments) plants
-  pub segments-after : outcome .segments ≡ segmentBytesAfter (answerTo file plants segments) segments
+pub record EntryPromise (file plants segments : List ℕ) (outcome : Outcome) : Type 0 where
+  pub result : outcome .result ≡ refusalNumber (rulingVerdict (entryRuling file plants segments))
+  pub place : outcome .place ≡ refusalPlace (rulingVerdict (entryRuling file plants segments))
+  pub plants-after : outcome .plants ≡ bytesOverwritten (plantEntries (entryRuling file plants segments)) plants
+  pub segments-after : outcome .segments ≡ bytesOverwritten (segmentEntries (entryRuling file plants segments)) segments

@@ -1,5 +1,5 @@
 // "The plant historian, written in C, calls the library on byte slices."
-ghost use Rattle.historian.specs.Tables.{Promised};
+ghost use Rattle.historian.specs.Tables.{EntryPromise};
 use crate::table::room;
 use crate::table::write_numbers;
 use period::PLANT_NUMBERS;
@@ -24,7 +24,7 @@ pub extern "C" fn steeplecuff_quantify(
     segments: &mut [u8],
     place: &mut u64,
 ) -> u32
-    ensures { λ r. ⌜ Promised (now (file .entry)) (now (plants .entry)) (now (segments .entry)) (record { result = r; place = now (place .exit); plants = now (plants .exit); segments = now (segments .exit) }) ⌝ }
+    ensures { λ r. ⌜ EntryPromise (now (file .entry)) (now (plants .entry)) (now (segments .entry)) (record { result = r; place = now (place .exit); plants = now (plants .exit); segments = now (segments .exit) }) ⌝ }
 {
     let mut plant_table = [0u64; MOST_PLANT_NUMBERS];
     let mut segment_table = [0u64; MOST_SEGMENT_NUMBERS];

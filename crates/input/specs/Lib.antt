@@ -1,2 +1,2 @@
 -- What the reading of standard input leaves behind.
-pub mod Standing
+pub mod Received

@@ -1,5 +1,5 @@
 // Standard input, read into room that is lent: what the programs that take a period file share.
-ghost use Rattle.input.specs.Standing.{Stands};
+ghost use Rattle.input.specs.Received.{Received};
 use libc::STDIN_FILENO;
 
 // What came of reading standard input.
@@ -14,7 +14,7 @@ pub enum Input {
 // libc does not tell why it failed, and one that a signal interrupts is taken up by the system itself,
 // since the programs handle no signals.
 pub fn read_input(room: &mut [u8]) -> Input
-    ensures { λ r. ⌜ Stands r (now (room .exit)) ⌝ }
+    ensures { λ r. ⌜ Received r (now (room .exit)) ⌝ }
 {
     let mut bytes = 0;
     while bytes < room.len() {

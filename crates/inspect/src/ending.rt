@@ -3,11 +3,11 @@
 use crate::text::print_number;
 use crate::text::print_words;
 use crate::words::print_field;
+use fields::Answer;
 use inspector::Field;
 use inspector::step_at;
 use libc::STDOUT_FILENO;
 use number::Number;
-use records::Answer;
 
 // Where a walk stops.
 enum Stop {
@@ -58,9 +58,10 @@ fn print_faulty(place: u64, at: usize, field: Field) -> bool {
 // looked at.
 fn print_refusal(file: &[u8]) -> bool {
     let answer = records::read(file).answer;
-    let Answer::Accepted = answer else {
-        return print_lettered(b"R", answer.refusal() as u64, answer.place());
-    };
+    if let Answer::Refused(refusal) = answer {
+        let reason = refusal.reason;
+        return print_lettered(b"R", reason.number() as u64, refusal.place);
+    }
     true
 }
 

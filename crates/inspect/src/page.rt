@@ -8,12 +8,12 @@ use inspector::field_at;
 use inspector::step_at;
 use libc::STDOUT_FILENO;
 use number::Number;
-use records::Header;
+use records::header_of;
 
 // Walks the file from its start, number by number, up to the first step that answers no number. Of a
 // file that is cut these are the first bytes.
 pub(crate) fn print_page(file: &[u8], cut: bool) -> bool {
-    let header = Header::of(file);
+    let header = header_of(file);
     let mut place = 0;
     let mut at = 0;
     loop {

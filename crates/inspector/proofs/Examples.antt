@@ -6,15 +6,15 @@ use Rattle.number.specs.Groups.{gather, value, padded}
 use Rattle.number.specs.Reading.{number, reading, formed, readAt}
 use Rattle.number.specs.Counting.{startOf, numberAt}
 use Rattle.number.specs.Writing.{writing, written}
+use Rattle.fields.specs.Run.{runOf, run}
+use Rattle.fields.specs.Readers.{each, reads, consumes}
 use Rattle.records.specs.declared.header.Header.the-variants.{Tells, TellsNothing}
 use Rattle.records.specs.Classes.{classes, classAllowed}
-use Rattle.records.specs.Run.{runOf, run}
-use Rattle.records.specs.Fields.{each, reads}
-use Rattle.records.specs.Periods.{header, plant, segment, line, records, period}
-use Rattle.records.specs.Headers.{headerOf}
+use Rattle.records.specs.Headers.{announced, header, headerOf}
+use Rattle.records.specs.Periods.{plant, segment, line, records, period}
+use Rattle.records.specs.Numbers.{consumed}
 use Rattle.accounts.proofs.Examples.{numbers, whole}
 use Rattle.inspector.specs.declared.field.Field.the-variants as Field
-use Rattle.inspector.specs.Consumed.{taken, consumed}
 use Rattle.inspector.specs.FieldsAt.{fieldAt}
 
 pub examples :
@@ -24,7 +24,7 @@ pub examples :
     × (numberAt whole 5 ≡ number 1 7)
     × (startOf whole 26 ≡ 37)
     -- the header tells two records of each kind, and so the fields: the header's lines, plant 2's first segment, line 1's factor, none
-    × (headerOf whole ≡ Tells 2 2 2)
+    × (headerOf whole ≡ Tells (announced 2 2 2))
     × (fieldAt (headerOf whole) 3 ≡ Field.Header 3)
     × (fieldAt (headerOf whole) 8 ≡ Field.Plant 2 1)
     × (fieldAt (headerOf whole) 15 ≡ Field.Segment 2 2)
@@ -36,5 +36,6 @@ pub examples :
     × (fieldAt TellsNothing 4 ≡ Field.Untold)
     -- a number that has a fault is not
     × (consumed (0x01 ∷ 0x80 ∷ 0x00 ∷ []) ≡ 1 ∷ [])
-unfolding flatMap gather value padded reading formed readAt startOf writing written classes classAllowed runOf run each reads header plant segment line records period headerOf taken consumed fieldAt
+unfolding flatMap gather value padded reading formed readAt startOf writing written classes classAllowed runOf run each reads header plant segment
+    line records period headerOf consumes consumed fieldAt
 examples = (refl, refl, refl, refl, refl, refl, refl, refl, refl, refl, refl, refl, refl)

@@ -12,43 +12,46 @@ use lib.Seq.{getD-append-add}
 use denote.Ref.{RefT, now}
 use borrow.Author.Tests.{lt-ltb, le-ltb}
 use Rattle.number.specs.Counting.{valueAt}
+use Rattle.fields.specs.Lists.{inTurn}
+use Rattle.records.specs.declared.counts.Counts.{Counts}
 use Rattle.records.specs.declared.header.Header.{Header}
 use Rattle.records.specs.declared.header.Header.the-variants.{Tells}
 use Rattle.records.specs.Plants.{plantFields, noPlant}
 use Rattle.records.specs.Segments.{segmentFields, noSegment}
 use Rattle.records.specs.Lines.{lineFields, noLine}
-use Rattle.records.specs.Periods.{Period, headerNumbers}
-use Rattle.records.specs.Headers.{headerOf}
+use Rattle.records.specs.Periods.{Period}
+use Rattle.records.specs.Headers.{headerFields, headerOf}
+use Rattle.records.specs.Within.{countsOf}
+use Rattle.records.specs.Numbers.{plantNumbersOf, segmentNumbersOf, lineNumbersOf, periodNumbers}
 use Rattle.accounts.specs.Accepted.{Accepted, held}
 use Rattle.inspector.specs.declared.field.Field.{Field}
 use Rattle.inspector.specs.declared.field.Field.the-variants as Field
-use Rattle.inspector.specs.Numbers.{plantNumbersOf, segmentNumbersOf, lineNumbersOf, ofEach, numbersOf}
 use Rattle.inspector.specs.FieldsAt.{fieldAt}
 use Rattle.inspector.specs.FieldsTold.{standsIn}
-use Rattle.inspector.proofs.NumbersTaken.{header-told}
-use Rattle.inspector.proofs.Walking.{walked-value, accepted-numbers}
+use Rattle.inspector.proofs.AcceptedNumbers.{accepted-header}
+use Rattle.inspector.proofs.WalkOverFile.{walked-value, accepted-numbers}
 
 -- ---- records of so many numbers each, one after another, and other numbers behind them
 module _ {A : Type 0} (numbers : A → List ℕ) (fields : ℕ) (sized : (one : A) → length (numbers one) ≡ fields) where
   -- how many there are of all
-  of-each-length : (all : List A) → length (ofEach numbers all) ≡ fields * length all
-  unfolding ofEach
+  of-each-length : (all : List A) → length (inTurn numbers all) ≡ fields * length all
+  unfolding inTurn
   of-each-length [] = omega arith
   of-each-length (one ∷ rest) = simp (length-append, sized, of-each-length rest) (omega arith)
 
   -- a number of them is a field of a record
   in-record :
       (all : List A) (none : A) (behind : List ℕ) (n f : ℕ) → n < length all → f < fields →
-      getD (ofEach numbers all ++ behind) (fields * n + f) 0 ≡ getD (numbers (getD all n none)) f 0
-  unfolding ofEach
+      getD (inTurn numbers all ++ behind) (fields * n + f) 0 ≡ getD (numbers (getD all n none)) f 0
+  unfolding inTurn
   in-record [] none behind n f before small = absurd (omega arith)
   in-record (one ∷ rest) none behind zero f before small =
       let first : fields * 0 + f ≡ f = omega arith in
-      rw (first, append-assoc) (List·getD-append (numbers one) (ofEach numbers rest ++ behind) 0 f (rw sized small))
+      rw (first, append-assoc) (List·getD-append (numbers one) (inTurn numbers rest ++ behind) 0 f (rw sized small))
   in-record (one ∷ rest) none behind (suc n) f before small =
       let next : fields * suc n + f ≡ length (numbers one) + (fields * n + f) = omega (arith, sized one) in
       rw (next, append-assoc)
-      (getD-append-add (numbers one) (ofEach numbers rest ++ behind) (fields * n + f) 0 ∙ in-record rest none behind n f (omega arith) small)
+      (getD-append-add (numbers one) (inTurn numbers rest ++ behind) (fields * n + f) 0 ∙ in-record rest none behind n f (omega arith) small)
 
   -- what stands at an index: a field of one of the records, or a number behind them
   abbrev standing : (all : List A) (none : A) (behind : List ℕ) → ℕ → ℕ
@@ -59,39 +62,40 @@ module _ {A : Type 0} (numbers : A → List ℕ) (fields : ℕ) (sized : (one : 
   -- the index divided by the fields of a record tells which it is
   at-index :
       0 < fields → (all : List A) (none : A) (behind : List ℕ) (index : ℕ) →
-      getD (ofEach numbers all ++ behind) index 0 ≡ standing all none behind index
+      getD (inTurn numbers all ++ behind) index 0 ≡ standing all none behind index
   at-index some all none behind index = by-place (decLt (index / fields) (length all))
     where
-      by-place : Dec (index / fields < length all) → getD (ofEach numbers all ++ behind) index 0 ≡ standing all none behind index
+      by-place : Dec (index / fields < length all) → getD (inTurn numbers all ++ behind) index 0 ≡ standing all none behind index
       by-place (yes h) =
           rw lt-ltb
-          (ap (λ (k : ℕ). getD (ofEach numbers all ++ behind) k 0) (sym (div-add-mod index fields))
+          (ap (λ (k : ℕ). getD (inTurn numbers all ++ behind) k 0) (sym (div-add-mod index fields))
           ∙ in-record all none behind (index / fields) (index % fields) h (mod-lt index some))
       by-place (no h) =
           let past : length all ≤ index / fields = omega arith in
           let fits = le-div-iff-mul-le some .0 past in
-          let after : index ≡ length (ofEach numbers all) + (index - fields * length all) = omega (arith, of-each-length all) in
+          let after : index ≡ length (inTurn numbers all) + (index - fields * length all) = omega (arith, of-each-length all) in
           rw le-ltb
-          (ap (λ (k : ℕ). getD (ofEach numbers all ++ behind) k 0) after
-          ∙ getD-append-add (ofEach numbers all) behind (index - fields * length all) 0)
+          (ap (λ (k : ℕ). getD (inTurn numbers all ++ behind) k 0) after
+          ∙ getD-append-add (inTurn numbers all) behind (index - fields * length all) 0)
 
 -- ---- behind all records no field is named
 pub after-all :
-    (plants segments lines place : ℕ) → headerNumbers + plantFields * plants + segmentFields * segments + lineFields * lines ≤ place →
-    fieldAt (Tells plants segments lines) place ≡ Field.After
+    (counts : Counts) (place : ℕ) →
+    headerFields + plantFields * counts .plants + segmentFields * counts .segments + lineFields * counts .lines ≤ place →
+    fieldAt (Tells counts) place ≡ Field.After
 unfolding fieldAt
-after-all plants segments lines place h =
-    let of-header : headerNumbers ≤ place = omega arith in
-    let of-plants : plants ≤ (place - headerNumbers) / plantFields = omega arith in
-    let of-segments : segments ≤ (place - headerNumbers - plantFields * plants) / segmentFields = omega arith in
-    let of-lines : lines ≤ (place - headerNumbers - plantFields * plants - segmentFields * segments) / lineFields = omega arith in
+after-all counts place h =
+    let of-header : headerFields ≤ place = omega arith in
+    let of-plants : counts .plants ≤ (place - headerFields) / plantFields = omega arith in
+    let of-segments : counts .segments ≤ (place - headerFields - plantFields * counts .plants) / segmentFields = omega arith in
+    let of-lines : counts .lines ≤ (place - headerFields - plantFields * counts .plants - segmentFields * counts .segments) / lineFields = omega arith in
     simp le-ltb
 
 -- ---- the number at a place of a period is that of the field that is named there
 module _ (period : Period) where
   -- what the header of its file tells
   abbrev tells : Header
-  tells = Tells (length (period .plants)) (length (period .segments)) (length (period .lines))
+  tells = Tells (countsOf period)
 
   -- the value of the one field or the other
   of-either : (t : Bool) (a b : Field) → standsIn (cond t a b) period ≡ cond t (standsIn a period) (standsIn b period)
@@ -99,16 +103,16 @@ module _ (period : Period) where
   of-either false a b = refl
 
   -- at every place: behind the last number no field is named, and both sides are 0
-  pub number-of-field : (k : ℕ) → getD (numbersOf period) k 0 ≡ standsIn (fieldAt tells k) period
-  unfolding numbersOf fieldAt
+  pub number-of-field : (k : ℕ) → getD (periodNumbers period) k 0 ≡ standsIn (fieldAt tells k) period
+  unfolding periodNumbers fieldAt
   number-of-field zero = refl
   number-of-field (suc zero) = refl
   number-of-field (suc (suc zero)) = refl
   number-of-field (suc (suc (suc zero))) = refl
   number-of-field (suc (suc (suc (suc index)))) =
-      let behind : suc (suc (suc (suc index))) - headerNumbers ≡ index = omega arith in
+      let behind : suc (suc (suc (suc index))) - headerFields ≡ index = omega arith in
       let own : (n : ℕ) → suc n - 1 ≡ n = λ n. omega arith in
-      rw (le-ltb (suc (suc (suc (suc index)))) headerNumbers (omega arith), behind, ← append-nil (ofEach lineNumbersOf (period .lines)))
+      rw (le-ltb (suc (suc (suc (suc index)))) headerFields (omega arith), behind, ← append-nil (inTurn lineNumbersOf (period .lines)))
       (simp (
         at-index plantNumbersOf plantFields (λ _. refl) (omega arith) (period .plants) noPlant,
         at-index segmentNumbersOf segmentFields (λ _. refl) (omega arith) (period .segments) noSegment,
@@ -119,9 +123,9 @@ module _ (period : Period) where
 
   -- how many numbers it has
   numbers-length :
-      length (numbersOf period)
-      ≡ headerNumbers + plantFields * length (period .plants) + segmentFields * length (period .segments) + lineFields * length (period .lines)
-  unfolding numbersOf
+      length (periodNumbers period)
+      ≡ headerFields + plantFields * length (period .plants) + segmentFields * length (period .segments) + lineFields * length (period .lines)
+  unfolding periodNumbers
   numbers-length =
       simp (
         length-append,
@@ -131,18 +135,18 @@ module _ (period : Period) where
       ) (omega arith)
 
   -- and no field is named behind its last number
-  pub after-last : (k : ℕ) → length (numbersOf period) ≤ k → fieldAt tells k ≡ Field.After
-  after-last k h = after-all (length (period .plants)) (length (period .segments)) (length (period .lines)) k (omega (arith, numbers-length))
+  pub after-last : (k : ℕ) → length (periodNumbers period) ≤ k → fieldAt tells k ≡ Field.After
+  after-last k h = after-all (countsOf period) k (omega (arith, numbers-length))
 
 -- ---- an accepted file: a number has the value of the field that is named at its place
 pub field-named :
-    {plants segments : List ℕ} (file : RefT (List ℕ)) → Accepted (now file) plants segments → (k : ℕ) → k < length (numbersOf (held (now file))) →
+    {plants segments : List ℕ} (file : RefT (List ℕ)) → Accepted (now file) plants segments → (k : ℕ) → k < length (periodNumbers (held (now file))) →
     valueAt (now file) k ≡ standsIn (fieldAt (headerOf (now file)) k) (held (now file))
 field-named file given k h =
-    rw (header-told given) (walked-value (accepted-numbers file given .walks) k h ∙ number-of-field (held (now file)) k)
+    rw (accepted-header given) (walked-value (accepted-numbers file given .walks) k h ∙ number-of-field (held (now file)) k)
 
 -- and behind its last number no field is named
 pub none-named :
-    {file plants segments : List ℕ} → Accepted file plants segments → (k : ℕ) → length (numbersOf (held file)) ≤ k →
+    {file plants segments : List ℕ} → Accepted file plants segments → (k : ℕ) → length (periodNumbers (held file)) ≤ k →
     fieldAt (headerOf file) k ≡ Field.After
-none-named {file} given k h = rw (header-told given) (after-last (held file) k h)
+none-named {file} given k h = rw (accepted-header given) (after-last (held file) k h)

@@ -3,9 +3,10 @@ mod ByHand
 mod Lent
 pub mod Steps
 -- The numbers that reading takes: they are the period's, and a walk over the file gives them.
-pub mod NumbersTaken
-mod Taking
-pub mod Walking
+pub mod AcceptedNumbers
+mod WalkOverConsumed
+pub mod WalkOverFile
+pub mod CutFile
 -- The field that is named at a place.
 pub mod FieldsNamed
 pub mod RefusedFields

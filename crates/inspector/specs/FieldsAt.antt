@@ -7,7 +7,7 @@ use Rattle.records.specs.declared.header.Header.the-variants.{Tells, TellsNothi
 use Rattle.records.specs.Plants.{plantFields}
 use Rattle.records.specs.Segments.{segmentFields}
 use Rattle.records.specs.Lines.{lineFields}
-use Rattle.records.specs.Periods.{headerNumbers}
+use Rattle.records.specs.Headers.{headerFields}
 use Rattle.inspector.specs.declared.field.Field.{Field}
 use Rattle.inspector.specs.declared.field.Field.the-variants as Field
 
@@ -20,9 +20,11 @@ among fields count of behind index =
 -- Behind the header, at an index: plants, segments and lines, as many as it announces.
 abbrev pub behindHeader : Header → ℕ → Field
 behindHeader TellsNothing index = Field.Untold
-behindHeader (Tells plants segments lines) index =
-    among plantFields plants Field.Plant (among segmentFields segments Field.Segment (among lineFields lines Field.Line (λ left. Field.After))) index
+behindHeader (Tells counts) index =
+    among plantFields (counts .plants) Field.Plant
+    (among segmentFields (counts .segments) Field.Segment
+    (among lineFields (counts .lines) Field.Line (λ left. Field.After))) index
 
 -- The field at a place: the header's own come first.
 unfoldable pub fieldAt : Header → ℕ → Field
-fieldAt header place = cond (ltb place headerNumbers) (Field.Header place) (behindHeader header (place - headerNumbers))
+fieldAt header place = cond (ltb place headerFields) (Field.Header place) (behindHeader header (place - headerFields))

@@ -1,14 +1,15 @@
 -- What the theorems say of a field: the number that stands in it, and the refusal that is due to it.
 use Prim.Native.Nat.{ℕ, zero, suc, _-_}
 use lib.ListN.{getD}
+use Rattle.fields.specs.declared.reason.Reason.the-variants.{WrongEdition, WrongCount, WrongPlant, WrongSegment, WrongLine, BytesAfter}
+use Rattle.fields.specs.Reasons.{numberOf}
 use Rattle.records.specs.Plants.{noPlant}
 use Rattle.records.specs.Segments.{noSegment}
 use Rattle.records.specs.Lines.{noLine}
-use Rattle.records.specs.Refusals.{wrongEdition, wrongCount, wrongPlant, wrongSegment, wrongLine, bytesAfter}
 use Rattle.records.specs.Periods.{Period}
+use Rattle.records.specs.Numbers.{headerNumbersOf, plantNumbersOf, segmentNumbersOf, lineNumbersOf}
 use Rattle.inspector.specs.declared.field.Field.{Field}
 use Rattle.inspector.specs.declared.field.Field.the-variants as Field
-use Rattle.inspector.specs.Numbers.{headerNumbersOf, plantNumbersOf, segmentNumbersOf, lineNumbersOf}
 
 -- What stands in a field of a period.
 abbrev pub standsIn : Field → Period → ℕ
@@ -22,10 +23,10 @@ standsIn Field.Untold period = 0
 -- The refusal that is due to a field: that of its number where it is not allowed; behind the last one, that of the bytes that follow; and
 -- none where the header tells nothing.
 abbrev pub refusalDue : Field → ℕ
-refusalDue (Field.Header zero) = wrongEdition
-refusalDue (Field.Header (suc field)) = wrongCount
-refusalDue (Field.Plant number field) = wrongPlant
-refusalDue (Field.Segment number field) = wrongSegment
-refusalDue (Field.Line number field) = wrongLine
-refusalDue Field.After = bytesAfter
+refusalDue (Field.Header zero) = numberOf WrongEdition
+refusalDue (Field.Header (suc field)) = numberOf WrongCount
+refusalDue (Field.Plant number field) = numberOf WrongPlant
+refusalDue (Field.Segment number field) = numberOf WrongSegment
+refusalDue (Field.Line number field) = numberOf WrongLine
+refusalDue Field.After = numberOf BytesAfter
 refusalDue Field.Untold = 0

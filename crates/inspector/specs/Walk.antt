@@ -5,13 +5,13 @@ use mathlib.Core.List.{List, [], _∷_}
 use denote.Ref.{RefT}
 use Rattle.number.specs.Reading.{number, fault as oneFault}
 use Rattle.inspector.specs.declared.Inspector.{Inspector}
-use Rattle.inspector.specs.Reader.{begun, answers, stepped}
+use Rattle.inspector.specs.Reader.{begun, findsNext, stepped}
 
 -- From one reader to another, step by step: each step answers a number, and these are their values in order.
 pub data Walks : Inspector → List ℕ → Inspector → Type 0 where
   there : {reader : Inspector} → Walks reader [] reader
   step :
-      {reader last : Inspector} {value next : ℕ} {values : List ℕ} → answers reader ≡ number value next →
+      {reader last : Inspector} {value next : ℕ} {values : List ℕ} → findsNext reader ≡ number value next →
       Walks (stepped reader) values last → Walks reader (value ∷ values) last
 
 -- A walk from the start of a file that gives these values; it may go on behind them.
@@ -24,5 +24,5 @@ pub record Stops (file : RefT (List ℕ)) (values : List ℕ) (refusal at : ℕ)
   pub last : Inspector
   pub walks : Walks (begun file) values last
   pub stands : last ≡ record { file = file; at = at }
-  pub fault : answers last ≡ oneFault refusal
+  pub fault : findsNext last ≡ oneFault refusal
   pub stays : stepped last ≡ last

@@ -26,39 +26,34 @@ pub enum Field {
 pub fn field_at(header: Header, place: u64) -> Field
     ensures { λ r. ⌜ r ≡ fieldAt header place ⌝ }
 {
-    if place < Header::FIELDS {
+    if place < Header::FIELDS as u64 {
         return Field::Header { field: place };
     }
-    let Header::Tells {
-        plants,
-        segments,
-        lines,
-    } = header
-    else {
+    let Header::Tells(counts) = header else {
         return Field::Untold;
     };
-    let index = place - Header::FIELDS;
-    let plant = index / Plant::FIELDS;
-    if plant < plants {
+    let index = place - Header::FIELDS as u64;
+    let plant = index / Plant::FIELDS as u64;
+    if plant < counts.plants {
         return Field::Plant {
             number: plant + 1,
-            field: index % Plant::FIELDS,
+            field: index % Plant::FIELDS as u64,
         };
     }
-    let index = index - Plant::FIELDS * plants;
-    let segment = index / Segment::FIELDS;
-    if segment < segments {
+    let index = index - Plant::FIELDS as u64 * counts.plants;
+    let segment = index / Segment::FIELDS as u64;
+    if segment < counts.segments {
         return Field::Segment {
             number: segment + 1,
-            field: index % Segment::FIELDS,
+            field: index % Segment::FIELDS as u64,
         };
     }
-    let index = index - Segment::FIELDS * segments;
-    let line = index / Line::FIELDS;
-    if line < lines {
+    let index = index - Segment::FIELDS as u64 * counts.segments;
+    let line = index / Line::FIELDS as u64;
+    if line < counts.lines {
         return Field::Line {
             number: line + 1,
-            field: index % Line::FIELDS,
+            field: index % Line::FIELDS as u64,
         };
     }
     Field::After

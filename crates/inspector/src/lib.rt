@@ -1,5 +1,5 @@
-// The inspector's reader: it holds the lent file with its next place, and walks it number by number
-// (01, "Who calls it").
+// The inspector's reader: it holds the lent file and the byte where its next number starts, and walks
+// it number by number (01, "Who calls it").
 //
 // Each function over the reader is proved by hand, since the kit proves none over a struct with a
 // reference in it by itself. So they are thin, and leave the work to the number layer.
@@ -8,8 +8,8 @@ pub mod field;
 pub mod step;
 
 ghost use mathlib.Core.Path.{_≡_};
-ghost use Rattle.number.specs.Answers.{said};
-ghost use Rattle.inspector.specs.Reader.{answers, begun, standsAt, stepped};
+ghost use Rattle.number.specs.Finding.{finds};
+ghost use Rattle.inspector.specs.Reader.{begun, findsNext, standsAt, stepped};
 use crate::after::after;
 pub use crate::field::Field;
 pub use crate::field::field_at;
@@ -44,7 +44,7 @@ impl<'a> Inspector<'a> {
     // Answers as number reading does where it stands, and moves past the number. At the end of the file,
     // and on a fault, it stays.
     pub fn step<'s>(&'s mut self) -> Number
-        ensures { λ r. ⌜ said r ≡ answers (now (self .entry)) ⌝ }
+        ensures { λ r. ⌜ finds r ≡ findsNext (now (self .entry)) ⌝ }
         ensures { λ _. ⌜ now (self .exit) ≡ stepped (now (self .entry)) ⌝ }
     {
         let found = read_at(self.file, self.at);

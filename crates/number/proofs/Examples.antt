@@ -1,9 +1,9 @@
--- 01's examples of numbers, and the faults at their edges, as one statement about the definitions: bytes, place, what stands there.
+-- 01's examples of numbers, and the faults at their edges, as one statement about the definitions: the bytes, one of them, what stands there.
 use mathlib.Core.Path.{_≡_, refl}
 use mathlib.Core.List.{[], _∷_}
 use Rattle.number.specs.Groups.{gather, value, padded}
 use Rattle.number.specs.Reading.{reading, readAt, formed, ends, notShortest, tooLarge}
-use Rattle.number.specs.Reading.Answer.{number, fault}
+use Rattle.number.specs.Reading.Found.{number, fault}
 use Rattle.number.specs.Writing.{writing, written}
 
 pub examples :
@@ -17,7 +17,7 @@ pub examples :
     × (written 128 ≡ 0x80 ∷ 0x01 ∷ [])
     × (written 300 ≡ 0xAC ∷ 0x02 ∷ [])
     × (written 4_000_000_000 ≡ 0x80 ∷ 0xD0 ∷ 0xAC ∷ 0xF3 ∷ 0x0E ∷ [])
-    -- zero is a number of one group; a place in the middle of a number is a place like any other; what follows does not matter
+    -- zero is a number of one group; a byte in the middle of a number is one like any other; what follows does not matter
     × (readAt (0x00 ∷ []) 0 ≡ number 0 1)
     × (readAt (0x80 ∷ 0x01 ∷ []) 1 ≡ number 1 2)
     × (readAt (0xAC ∷ 0x02 ∷ 0x80 ∷ []) 0 ≡ number 300 2)

@@ -12,8 +12,8 @@ use lib.Dec.{ltb}
 use borrow.Author.Tests.{lt-ltb, le-ltb, le-leb, lt-leb, eq-eqb, ne-eqb}
 use Rattle.number.specs.Groups.{value, padded, mostGroups, largest}
 use Rattle.number.specs.Inside.{AreGroups, Counted}
-use Rattle.number.specs.Reading.{Answer, formed, notShortest, tooLarge}
-use Rattle.number.specs.Reading.Answer.{number, fault}
+use Rattle.number.specs.Reading.{Found, formed, notShortest, tooLarge}
+use Rattle.number.specs.Reading.Found.{number, fault}
 use Rattle.number.proofs.Values.{value-zeros, groups-zeros}
 
 -- the last of some groups
@@ -57,7 +57,7 @@ module _ (gs : List ℕ) where
   formed-number p h = rw (p, le-leb (value gs) largest h)
 
 -- ---- and which it was, from the answer
-pub data FormedAs (groups : List ℕ) : Answer → Type 0 where
+pub data FormedAs (groups : List ℕ) : Found → Type 0 where
   is-padded : padded groups ≡ true → FormedAs groups (fault notShortest)
   is-large : padded groups ≡ false → largest < value groups → FormedAs groups (fault tooLarge)
   is-number : padded groups ≡ false → value groups ≤ largest → FormedAs groups (number (value groups) (length groups))

@@ -8,16 +8,16 @@ use native.Mathlib.Omega.{arith}
 use lib.ListN.{length, take, drop, length-take, length-drop, drop-of-length-le}
 use lib.Seq.{drop-append-le, drop-append-add, take-nil}
 use Rattle.number.specs.Groups.{Gathering, gather, mostGroups, largest}
-use Rattle.number.specs.Reading.{Answer, from, answer, reading, readAt, ends, tooLarge}
-use Rattle.number.specs.Reading.Answer.{number, fault}
+use Rattle.number.specs.Reading.{Found, from, foundOf, reading, readAt, ends, tooLarge}
+use Rattle.number.specs.Reading.Found.{number, fault}
 use Rattle.number.proofs.Gathering.{gather-after, gather-take}
-use Rattle.number.proofs.Standing.{Stands, some, most, within, alone}
-use Rattle.number.proofs.Answering.{reads, standing-reads, at-front, answer-fault, from-fault}
+use Rattle.number.proofs.FrontGroups.{Fronts, some, most, within, alone}
+use Rattle.number.proofs.Findings.{reads, front-reads, at-front, found-fault, from-fault}
 
--- ---- a place is the front of the bytes from there on
-pub at-place : (file : List ℕ) (at : ℕ) → readAt file at ≡ from at (reading (drop at file))
+-- ---- what stands at a byte is what stands at the front of the bytes from there on
+pub at-byte : (file : List ℕ) (at : ℕ) → readAt file at ≡ from at (reading (drop at file))
 unfolding readAt
-at-place file at = refl
+at-byte file at = refl
 
 -- ---- at the end of the file, and past it, stands fault 1
 pub nothing-left : reading [] ≡ fault ends
@@ -25,7 +25,7 @@ unfolding reading gather
 nothing-left = refl
 
 pub past-end : (file : List ℕ) (at : ℕ) → length file ≤ at → readAt file at ≡ fault ends
-past-end file at h = at-place file at ∙ ap (λ (s : List ℕ). from at (reading s)) (drop-of-length-le file h) ∙ ap (from at) nothing-left
+past-end file at h = at-byte file at ∙ ap (λ (s : List ℕ). from at (reading s)) (drop-of-length-le file h) ∙ ap (from at) nothing-left
 
 -- ---- bounds: a number takes one byte to five, all of them there, and its value is within the limit
 pub record Size (bytes : List ℕ) (v n : ℕ) : Type 0 where
@@ -40,20 +40,20 @@ size bytes v n e =
     let r = reads bytes v n e in
     let is = r .formed-so .size-is in
     record {
-      one = rw is at (some (r .standing));
-      five = rw is at (most (r .standing));
-      inside = rw is at (within (r .standing));
+      one = rw is at (some (r .front));
+      five = rw is at (most (r .front));
+      inside = rw is at (within (r .front));
       small = r .formed-so .small;
     }
 
--- the same of a number at a place, counted from the start of the file
+-- the same of a number at a byte, counted from the start of the file
 pub record Bounds (file : List ℕ) (at v n : ℕ) : Type 0 where
   pub later : at < n
   pub near : n ≤ at + mostGroups
   pub inside : n ≤ length file
   pub small : v ≤ largest
 
--- every number at a place has these bounds
+-- every number at a byte has these bounds
 pub bounds : (file : List ℕ) (at v n : ℕ) → readAt file at ≡ number v n → Bounds file at v n
 bounds file at v n e =
     let (m, q, next-is) = at-front file at v n e in
@@ -64,14 +64,14 @@ bounds file at v n e =
 -- ---- a fault is one of three
 pub front-faults : (bytes : List ℕ) (k : ℕ) → reading bytes ≡ fault k → (ends ≤ k) × (k ≤ tooLarge)
 unfolding reading
-front-faults bytes k e = answer-fault (gather mostGroups bytes) k e
+front-faults bytes k e = found-fault (gather mostGroups bytes) k e
 
 pub faults : (file : List ℕ) (at k : ℕ) → readAt file at ≡ fault k → (ends ≤ k) × (k ≤ tooLarge)
-faults file at k e = front-faults (drop at file) k (from-fault at (reading (drop at file)) k (sym (at-place file at) ∙ e))
+faults file at k e = front-faults (drop at file) k (from-fault at (reading (drop at file)) k (sym (at-byte file at) ∙ e))
 
 -- ---- what comes before the number does not matter
 -- counting on from n and then from m is counting on from m + n
-from-from : (m n : ℕ) (a : Answer) → from m (from n a) ≡ from (m + n) a
+from-from : (m n : ℕ) (a : Found) → from m (from n a) ≡ from (m + n) a
 from-from m n (number v k) = ap (number v) (sym (add-assoc m n k))
 from-from m n (fault k) = refl
 
@@ -85,17 +85,17 @@ what-precedes p file at =
 -- ---- nor what comes after it, unless the bytes end in it
 pub front-follows : (bytes t : List ℕ) → (reading bytes ≡ fault ends → ⊥) → reading (bytes ++ t) ≡ reading bytes
 unfolding reading
-front-follows bytes t h = ap answer (gather-after mostGroups bytes t (λ e. h (ap answer e)))
+front-follows bytes t h = ap foundOf (gather-after mostGroups bytes t (λ e. h (ap foundOf e)))
 
 pub what-follows : (file t : List ℕ) (at : ℕ) → (readAt file at ≡ fault ends → ⊥) → readAt (file ++ t) at ≡ readAt file at
 unfolding readAt
-what-follows file t at h = by-place (decLe at (length file))
+what-follows file t at h = by-end (decLe at (length file))
   where
-    by-place : Dec (at ≤ length file) → readAt (file ++ t) at ≡ readAt file at
-    by-place (yes q) =
+    by-end : Dec (at ≤ length file) → readAt (file ++ t) at ≡ readAt file at
+    by-end (yes q) =
         ap (λ (s : List ℕ). from at (reading s)) (drop-append-le at file t q)
         ∙ ap (from at) (front-follows (drop at file) t (λ e. h (ap (from at) e)))
-    by-place (no q) = absurd (h (past-end file at (omega arith)))
+    by-end (no q) = absurd (h (past-end file at (omega arith)))
 
 -- ---- which bytes are looked at
 -- the first n + m elements, from the n-th on
@@ -104,11 +104,11 @@ drop-take zero m l = rw (zero-add m)
 drop-take (suc n) m [] = rw (suc-add n m) (sym (take-nil m))
 drop-take (suc n) m (x ∷ l) = rw (suc-add n m) (drop-take n m l)
 
--- no more than five bytes from the place on are looked at
+-- no more than five bytes from there on are looked at
 pub only-five-bytes : (file : List ℕ) (at : ℕ) → readAt (take (at + mostGroups) file) at ≡ readAt file at
 unfolding readAt reading
 only-five-bytes file at =
-    ap (λ (g : Gathering). from at (answer g))
+    ap (λ (g : Gathering). from at (foundOf g))
     (ap (gather mostGroups) (drop-take at mostGroups file) ∙ gather-take mostGroups (drop at file))
 
 -- a number that was read is read as well when its last byte is the file's last, and when anything else follows
@@ -122,7 +122,7 @@ only-its-bytes file t at v n e =
     let from-there : drop at (take n file) ≡ take m (drop at file) =
     ap (λ (x : ℕ). drop at (take x file)) next-is ∙ drop-take at m file in
     let part : drop at (take n file ++ t) ≡ take m (drop at file) ++ t = drop-append-le at (take n file) t here ∙ rw from-there in
-    let standing : Stands mostGroups (take m (drop at file) ++ t) (r .groups) = rw (r .formed-so .size-is) at (alone t (r .standing)) in
+    let front : Fronts mostGroups (take m (drop at file) ++ t) (r .groups) = rw (r .formed-so .size-is) at (alone t (r .front)) in
     ap (λ (s : List ℕ). from at (reading s)) part
-    ∙ ap (from at) (standing-reads (take m (drop at file) ++ t) (r .groups) v m standing (r .formed-so))
+    ∙ ap (from at) (front-reads (take m (drop at file) ++ t) (r .groups) v m front (r .formed-so))
     ∙ ap (number v) (sym next-is)

@@ -1,10 +1,11 @@
--- The laws of number reading. The layers above cite Laws, Writing and Outcome; the others serve these and the functions' proofs.
+-- The laws of number reading. The layers above cite Laws, Counting, Writing and Outcome; the others serve these and the functions' proofs.
 pub mod Laws
+pub mod Counting
 pub mod Writing
 pub mod Outcome
 pub mod Examples
 mod Gathering
-mod Standing
+mod FrontGroups
 mod Values
 mod Forming
-mod Answering
+mod Findings

@@ -14,12 +14,12 @@ use borrow.Author.Tests.{lt-ltb, le-ltb}
 use Rattle.number.specs.Groups.{value, padded, groupBits, radix, group, mostGroups, largest}
 use Rattle.number.specs.Writing.{writing, written, AreBytes}
 use Rattle.number.specs.Reading.{reading, readAt, from}
-use Rattle.number.specs.Reading.Answer.{number}
+use Rattle.number.specs.Reading.Found.{number}
 use Rattle.number.proofs.Values.{group-more}
-use Rattle.number.proofs.Standing.{Stands, some}
-use Rattle.number.proofs.Standing.Stands.{last-group, group-before}
+use Rattle.number.proofs.FrontGroups.{Fronts, some}
+use Rattle.number.proofs.FrontGroups.Fronts.{last-group, group-before}
 use Rattle.number.proofs.Forming.{last, last-behind, padded-zero, padded-single, padded-other}
-use Rattle.number.proofs.Answering.{Reads, reads, standing-reads, at-front}
+use Rattle.number.proofs.Findings.{Reads, reads, front-reads, at-front}
 use Rattle.number.proofs.Laws.{bounds}
 
 -- ---- one group
@@ -36,7 +36,7 @@ writing-more k v h = rw (le-ltb v radix h)
 -- ---- what is written stands there
 record Written (k v : ℕ) (t : List ℕ) : Type 0 where
   groups : List ℕ
-  standing : Stands k (writing k v ++ t) groups
+  front : Fronts k (writing k v ++ t) groups
   value-is : value groups ≡ v
   size-is : length groups ≡ length (writing k v)
   last-is : 0 < v → last groups ≡ 0 → ⊥
@@ -49,7 +49,7 @@ one-last k v t h =
     let same : v % radix ≡ v = mod-eq-of-lt h in
     record {
       groups = v % radix ∷ [];
-      standing = rw (writing-last k v h) (last-group h);
+      front = rw (writing-last k v h) (last-group h);
       value-is = omega arith;
       size-is = rw (writing-last k v h);
       last-is = λ p e. omega arith;
@@ -64,10 +64,10 @@ one-more k v t h w =
     let says-more : radix ≤ byte = omega arith in
     record {
       groups = byte % radix ∷ w .groups;
-      standing = rw (writing-more k v h) (group-before says-more (w .standing));
+      front = rw (writing-more k v h) (group-before says-more (w .front));
       value-is = rw (w .value-is) (omega arith);
       size-is = rw (writing-more k v h) (ap suc (w .size-is));
-      last-is = λ p e. w .last-is (omega arith) (sym (last-behind (byte % radix) (w .groups) (some (w .standing))) ∙ e);
+      last-is = λ p e. w .last-is (omega arith) (sym (last-behind (byte % radix) (w .groups) (some (w .front))) ∙ e);
       single = λ b. absurd (omega arith);
     }
 
@@ -89,7 +89,7 @@ stands-written (suc k) v t h b = by-size (decLt v radix) (stands-written k (v / 
 pub reads-back : (v : ℕ) (t : List ℕ) → v ≤ largest → reading (written v ++ t) ≡ number v (length (written v))
 unfolding written
 reads-back v t h =
-    standing-reads (writing mostGroups v ++ t) (w .groups) v (length (writing mostGroups v)) (w .standing)
+    front-reads (writing mostGroups v ++ t) (w .groups) v (length (writing mostGroups v)) (w .front)
     (record { shortest = shortest (decLt v radix); value-is = w .value-is; size-is = w .size-is; small = h })
   where
     w : Written mostGroups v t
@@ -117,7 +117,7 @@ positive (g ∷ (k ∷ gs)) h =
     omega arith
 
 -- bytes whose groups have the shortest form are what is written for their value
-form-is : {k : ℕ} {s gs : List ℕ} → Stands k s gs → AreBytes s → (length gs ≤ 1) ⊎ (last gs ≡ 0 → ⊥) → take (length gs) s ≡ writing k (value gs)
+form-is : {k : ℕ} {s gs : List ℕ} → Fronts k s gs → AreBytes s → (length gs ≤ 1) ⊎ (last gs ≡ 0 → ⊥) → take (length gs) s ≡ writing k (value gs)
 unfolding value
 form-is (last-group {k} {b} h) bytes form =
     let same : b ≡ 0 * radix + b % radix = omega (arith, mod-eq-of-lt h) in
@@ -145,7 +145,7 @@ front-form : (bytes : List ℕ) (v m : ℕ) → Reads bytes v m → AreBytes byt
 unfolding written
 front-form bytes v m r all =
     ap (λ (x : ℕ). take x bytes) (sym (r .formed-so .size-is))
-    ∙ form-is (r .standing) all (shortest-form (r .groups) (r .formed-so .shortest))
+    ∙ form-is (r .front) all (shortest-form (r .groups) (r .formed-so .shortest))
     ∙ ap (writing mostGroups) (r .formed-so .value-is)
 
 -- the bytes that were read as a number are its shortest form

@@ -1,7 +1,7 @@
--- What a reader must believe of number reading: Groups, Reading, Answers, Counting and Writing. Inside is for the private functions alone.
+-- What a reader must believe of number reading: Groups, Reading, Finding, Counting and Writing. Inside is for the private functions alone.
 pub mod Groups
 pub mod Reading
-pub mod Answers
+pub mod Finding
 pub mod Counting
 pub mod Writing
 pub mod Inside

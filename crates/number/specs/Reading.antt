@@ -1,4 +1,4 @@
--- Reading the number at a place, with the faults in 01's order: "a fifth group that says more follow is 3 at once; then 2; then the value".
+-- Reading the number at a byte of a file, with the faults in 01's order: "a fifth group that says more follow is 3 at once; then 2; then the value".
 use Prim.Native.Nat.{ℕ, _+_}
 use mathlib.Core.List.{List}
 use mathlib.Core.Bool.{cond}
@@ -19,30 +19,30 @@ notShortest = 2
 abbrev pub tooLarge : ℕ
 tooLarge = 3
 
--- What stands at a place: a number, with its value and the next place; or a fault, with its number of refusal.
-pub data Answer : Type 0 where
-  number : (value next : ℕ) → Answer
-  fault : (refusal : ℕ) → Answer
+-- What is found at a byte: a number, with its value and the byte after it; or a fault, with its number of refusal.
+pub data Found : Type 0 where
+  number : (value next : ℕ) → Found
+  fault : (refusal : ℕ) → Found
 
--- The number of some groups, the next place counted from its first group.
-unfoldable pub formed : List ℕ → Answer
+-- The number of some groups, the byte after it counted from its first group.
+unfoldable pub formed : List ℕ → Found
 formed groups = cond (padded groups) (fault notShortest) (cond (leb (value groups) largest) (number (value groups) (length groups)) (fault tooLarge))
 
--- What was gathered, as an answer: "file ends inside a number or where one is needed", "fifth group says more follow", or what the groups form.
-abbrev pub answer : Gathering → Answer
-answer (whole groups) = formed groups
-answer cut = fault ends
-answer long = fault tooLarge
+-- What is found of what was gathered: "file ends inside a number or where one is needed", "fifth group says more follow", or what the groups form.
+abbrev pub foundOf : Gathering → Found
+foundOf (whole groups) = formed groups
+foundOf cut = fault ends
+foundOf long = fault tooLarge
 
 -- The number at the front of the bytes.
-unfoldable pub reading : List ℕ → Answer
-reading bytes = answer (gather mostGroups bytes)
+unfoldable pub reading : List ℕ → Found
+reading bytes = foundOf (gather mostGroups bytes)
 
--- The same, counted from a place.
-abbrev pub from : ℕ → Answer → Answer
+-- The same, counted from a byte.
+abbrev pub from : ℕ → Found → Found
 from at (number v next) = number v (at + next)
 from at (fault k) = fault k
 
--- The number at a place of the file.
-unfoldable pub readAt : List ℕ → ℕ → Answer
+-- The number at a byte of the file.
+unfoldable pub readAt : List ℕ → ℕ → Found
 readAt file at = from at (reading (drop at file))

@@ -4,7 +4,7 @@ ghost use Prim.Native.Nat.{_+_, _^_, _<_};
 ghost use lib.ListN.{take, replicate};
 ghost use Rattle.number.specs.Groups.{gather as Groups·gather, value, mostGroups};
 ghost use Rattle.number.specs.Reading.{from, formed};
-ghost use Rattle.number.specs.Answers.{said};
+ghost use Rattle.number.specs.Finding.{finds};
 ghost use Rattle.number.specs.Inside.{AreGroups, Came, Counted, gathered, counted};
 use crate::Number;
 
@@ -47,13 +47,13 @@ pub(crate) fn gather(bytes: &[u8], groups: &mut [u64; Number::GROUPS]) -> Ending
     Ending::More
 }
 
-// Forms the number that began at a place from its groups, of which the last is group. Several groups
+// Forms the number that began at a byte from its groups, of which the last is group. Several groups
 // that end in a zero group are not its shortest form.
 pub(crate) fn form(groups: &[u64; Number::GROUPS], count: usize, group: u64, at: usize) -> Number
     requires { ⌜ Counted count group (now groups) ⌝ }
     requires { ⌜ AreGroups (take count (now groups)) ⌝ }
     requires { ⌜ at + count < 2 ^ 64 ⌝ }
-    ensures { λ r. ⌜ said r ≡ from at (formed (take count (now (groups .entry)))) ⌝ }
+    ensures { λ r. ⌜ finds r ≡ from at (formed (take count (now (groups .entry)))) ⌝ }
 {
     if 1 < count {
         if group == 0 {

@@ -1,19 +1,19 @@
-// Number reading: one seven-bit number at a place of a lent file (01, "The period file").
+// Number reading: one seven-bit number at a byte of a lent file (01, "The period file").
 //
 // Every layer above reads its numbers through read_at, and goes by its promise and the laws of
-// proofs/ alone: nothing above opens the definitions.
+// proofs/ alone: no law above opens the definitions. Worked examples do, to compute.
 mod groups;
 
 ghost use mathlib.Core.Path.{_≡_};
 ghost use Rattle.number.specs.Reading.{readAt};
-ghost use Rattle.number.specs.Answers.{said, refusalOf};
+ghost use Rattle.number.specs.Finding.{finds, refusalOf};
 use crate::groups::Ending;
 use crate::groups::form;
 use crate::groups::gather;
 
-// What stands at a place: a number, or one of three faults.
+// What stands at a byte: a number, or one of three faults.
 pub enum Number {
-    // The value, and the place right after the number.
+    // The value, and the byte right after the number.
     Value { value: u64, next: usize },
     // The file ends inside the number, or where one is needed.
     Ends,
@@ -31,7 +31,7 @@ impl Number {
 
     // The number of refusal that a fault has, and 0 for a value.
     pub fn refusal(self) -> u32
-        ensures { λ r. ⌜ r ≡ refusalOf (said self) ⌝ }
+        ensures { λ r. ⌜ r ≡ refusalOf (finds self) ⌝ }
     {
         match self {
             Number::Value { value: _, next: _ } => 0,
@@ -42,9 +42,9 @@ impl Number {
     }
 }
 
-// The number at a place of the file. Any place may be asked: past the end the file has ended.
+// The number at a byte of the file. Any byte may be asked: past the end the file has ended.
 pub fn read_at(file: &[u8], at: usize) -> Number
-    ensures { λ r. ⌜ said r ≡ readAt (now (file .entry)) at ⌝ }
+    ensures { λ r. ⌜ finds r ≡ readAt (now (file .entry)) at ⌝ }
 {
     if file.len() <= at {
         return Number::Ends;

@@ -1,9 +1,9 @@
 // The number reader, put to many cases in one run: for each case on standard input, a line on
-// standard output that says what stands at the asked place.
+// standard output that says what stands at the asked byte.
 //
-// A case is the asked place in 8 bytes and the count of the file's bytes in 4, both least
+// A case is the asked byte in 8 bytes and the count of the file's bytes in 4, both least
 // significant byte first, and then the file's bytes. The line is "N value next" for a number, and
-// "R refusal place" for a fault. Input that is no whole case is said on standard error and ends the
+// "R refusal byte" for a fault. Input that is no whole case is said on standard error and ends the
 // run.
 ghost use Prim.Native.Nat.{_+_, _≤_};
 ghost use lib.ListN.{length};
@@ -13,11 +13,11 @@ use libc::STDOUT_FILENO;
 use number::Number;
 
 // What stands before a case's file.
-const PLACE_BYTES: usize = 8;
+const AT_BYTES: usize = 8;
 
 const COUNT_BYTES: usize = 4;
 
-const HEAD_BYTES: usize = PLACE_BYTES + COUNT_BYTES;
+const HEAD_BYTES: usize = AT_BYTES + COUNT_BYTES;
 
 const BITS_IN_A_BYTE: u64 = 8;
 
@@ -45,12 +45,12 @@ fn answer(buffer: &mut [u8]) -> bool {
     if got < HEAD_BYTES {
         io::write_all(
             STDERR_FILENO,
-            b"numbers: the input ends inside a case's place and count\n",
+            b"numbers: the input ends inside a case's byte and count\n",
         );
         return false;
     }
-    let place = number_of(&head, 0, PLACE_BYTES) as usize;
-    let count = number_of(&head, PLACE_BYTES, COUNT_BYTES) as usize;
+    let at = number_of(&head, 0, AT_BYTES) as usize;
+    let count = number_of(&head, AT_BYTES, COUNT_BYTES) as usize;
     if buffer.len() < count {
         io::write_all(
             STDERR_FILENO,
@@ -58,11 +58,11 @@ fn answer(buffer: &mut [u8]) -> bool {
         );
         return false;
     }
-    answer_file(&mut buffer[..count], place)
+    answer_file(&mut buffer[..count], at)
 }
 
-// Reads a case's file, of just the count that is lent, and prints what stands at the place.
-fn answer_file(file: &mut [u8], place: usize) -> bool {
+// Reads a case's file, of just the count that is lent, and prints what stands at the byte.
+fn answer_file(file: &mut [u8], at: usize) -> bool {
     if io::read_full(STDIN_FILENO, file) < file.len() {
         io::write_all(
             STDERR_FILENO,
@@ -70,7 +70,7 @@ fn answer_file(file: &mut [u8], place: usize) -> bool {
         );
         return false;
     }
-    print(number::read_at(file, place), place)
+    print(number::read_at(file, at), at)
 }
 
 // The number in some of the bytes, least significant byte first.
@@ -86,12 +86,12 @@ fn number_of(bytes: &[u8], start: usize, count: usize) -> u64
     value
 }
 
-// Prints what stands at a place, and answers whether it could be written.
-fn print(found: Number, place: usize) -> bool {
+// Prints what stands at a byte, and answers whether it could be written.
+fn print(found: Number, at: usize) -> bool {
     if let Number::Value { value, next } = found {
         return line(b"N ", value, next as u64);
     }
-    line(b"R ", found.refusal() as u64, place as u64)
+    line(b"R ", found.refusal() as u64, at as u64)
 }
 
 // A letter and two numbers.

@@ -12,7 +12,7 @@ use lib.Seq.{getD-set-same, getD-set-other}
 use borrow.Author.Tests.{eqb-true, eqb-false}
 use Rattle.records.specs.Plants.{mostPlants}
 use Rattle.records.specs.Segments.{mostSegments}
-use Rattle.period.specs.Inside.{Sized, cell}
+use Rattle.period.specs.Books.{Sized, cell}
 
 -- ---- an array before anything is filled into it
 abbrev pub zeros : ℕ → List ℕ

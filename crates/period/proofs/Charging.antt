@@ -3,7 +3,7 @@ use Prim.Native.Nat.{ℕ, _+_, _-_, _*_, _^_, _≤_, _<_}
 use native.Mathlib.Nat.{le-trans, mul-le-mul}
 use native.Mathlib.Omega.{arith}
 use Rattle.number.specs.Groups.{largest}
-use Rattle.accounts.specs.Emissions.{roundedUp}
+use Rattle.accounts.specs.Sums.{roundedUp}
 use Rattle.accounts.proofs.Credits.{up-part}
 
 module _ {amount inflow emission : ℕ} (h : (amount ≤ inflow) × (inflow ≤ largest) × (emission ≤ largest)) where

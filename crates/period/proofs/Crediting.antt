@@ -6,7 +6,8 @@ use native.Mathlib.Nat.{zero-mul, zero-div}
 use native.Mathlib.Omega.{arith}
 use lib.ListN.{length, set, take, drop, length-drop, length-set, drop-of-length-le}
 use lib.Seq.{take-suc-set, append-snoc}
-use Rattle.accounts.specs.Walk.{sum, creditsFrom, credits}
+use Rattle.accounts.specs.Sums.{sum}
+use Rattle.accounts.specs.Flow.{creditsFrom, credits}
 use Rattle.accounts.proofs.Credits.{div-mono}
 
 -- what the plants before p brought, its part of the outflow, and their credits, which are written

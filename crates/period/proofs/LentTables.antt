@@ -7,18 +7,19 @@ use mathlib.Core.List.{List, map}
 use native.Mathlib.Nat.{mul-le-mul-left}
 use lib.Count.{ones}
 use lib.ListN.{length, drop, getD}
+use Rattle.fields.specs.Answers.{accepts, said}
+use Rattle.fields.proofs.Answers.{refuses-not-accepts}
 use Rattle.records.specs.Plants.{noPlant}
 use Rattle.records.specs.Segments.{noSegment}
 use Rattle.records.specs.Classes.{plantOwner}
-use Rattle.records.specs.Answers.{accepts}
-use Rattle.records.proofs.Verdicts.{refuses-not-accepts}
 use Rattle.accounts.specs.Emissions.{emission}
-use Rattle.accounts.specs.Walk.{nowhere, passes, sum, Turn}
+use Rattle.accounts.specs.Flow.{nowhere, passes, Turn}
+use Rattle.accounts.specs.Sums.{sum}
 use Rattle.accounts.specs.Accounts.{hasBit}
-use Rattle.accounts.specs.Order.{Answer, refusal, accepted, plantNumbers, segmentNumbers}
-use Rattle.accounts.specs.Quantified.{walk, stores, quantified}
+use Rattle.accounts.specs.Order.{Ruling, refusal, accepted, plantNumbers, segmentNumbers}
+use Rattle.accounts.specs.Quantified.{turnsOf, stores}
 use Rattle.accounts.specs.Accepted.{Accepted, held}
-use Rattle.accounts.specs.Tables.{rowAt, inRow, columnSum, exportedColumn, storedColumn, associatedColumn, unitsColumn, inflowColumn, outflowColumn, lossColumn, emissionColumn, setColumn}
+use Rattle.accounts.specs.RowsAndColumns.{rowAt, inRow, columnSum, exportedColumn, storedColumn, associatedColumn, unitsColumn, inflowColumn, outflowColumn, lossColumn, emissionColumn, setColumn}
 use Rattle.accounts.specs.Shares.{turnAt, entering, leaving, charged, ownEmissions, creditOf, Credited, SentOn, AddUp}
 use Rattle.accounts.specs.Routes.{Alone, AloneInRows}
 use Rattle.accounts.specs.Changes.{OneLineLarger, OthersOwn, SameFor}
@@ -32,7 +33,7 @@ use Rattle.accounts.proofs.LargerLine.{larger-line}
 use Rattle.accounts.proofs.OthersFractionAndLines.{others-fraction-and-lines, no-segment-changes}
 use Rattle.accounts.proofs.ChargesAddUp.{charges-add-up}
 use Rattle.accounts.proofs.ChargesCounted.{charges-of-plant, charges-counted}
-use Rattle.period.specs.Written.{verdictOf, plantsAfter, segmentsAfter, Left}
+use Rattle.period.specs.Written.{Lent, lent, rulingOn, rulingVerdict, lentAfter, Left}
 
 -- ---- the tables hold the rows of an accepted file
 record Rows (file plants segments : List ℕ) : Type 0 where
@@ -45,17 +46,15 @@ record Rows (file plants segments : List ℕ) : Type 0 where
 -- those that an accepting call left do
 rows-left : {file plants segments : List ℕ} → Left file plants segments → Rows file plants segments
 rows-left {file} {plants} {segments} left =
-    by-answer
-    (quantified file (length (left .plants-before)) (length (left .segments-before))) refl
-    (sym (left .promised .answers .verdict) ∙ left .accepting) (left .promised .plants-after) (left .promised .segments-after)
+    by-ruling (rulingOn file (left .before)) refl (sym (left .promised .hands-back .verdict) ∙ ap said (left .accepting)) (left .promised .leaves)
   where
-    by-answer :
-        (answer : Answer) → quantified file (length (left .plants-before)) (length (left .segments-before)) ≡ answer → verdictOf answer ≡ accepts →
-        plants ≡ plantsAfter answer (left .plants-before) → segments ≡ segmentsAfter answer (left .segments-before) → Rows file plants segments
-    by-answer (refusal number place) is verdict of-plants of-segments = absurd (refuses-not-accepts verdict)
-    by-answer (accepted plant-numbers segment-numbers) is verdict of-plants of-segments =
+    by-ruling :
+        (ruling : Ruling) → rulingOn file (left .before) ≡ ruling → rulingVerdict ruling ≡ accepts →
+        lent plants segments ≡ lentAfter ruling (left .before) → Rows file plants segments
+    by-ruling (refusal number place) is verdict leaves = absurd (refuses-not-accepts verdict)
+    by-ruling (accepted plant-numbers segment-numbers) is verdict leaves =
         let file-accepted : Accepted file plant-numbers segment-numbers =
-        record { plantTable = length (left .plants-before); segmentTable = length (left .segments-before); answer = is } in
+        record { plantTable = length (left .before .plants); segmentTable = length (left .before .segments); answer = is } in
         let means = accepted-means file-accepted in
         record {
           plant-numbers = plant-numbers;
@@ -63,15 +62,15 @@ rows-left {file} {plants} {segments} left =
           accepted-file = file-accepted;
           plant-rows =
               λ index below.
-              ap (rowAt plantNumbers index) of-plants
+              ap (λ (tables : Lent). rowAt plantNumbers index (tables .plants)) leaves
               ∙ row-front
-              plantNumbers index plant-numbers (drop (length plant-numbers) (left .plants-before))
+              plantNumbers index plant-numbers (drop (length plant-numbers) (left .before .plants))
               (rw (plants-long means) (mul-le-mul-left plantNumbers below));
           segment-rows =
               λ index below.
-              ap (rowAt segmentNumbers index) of-segments
+              ap (λ (tables : Lent). rowAt segmentNumbers index (tables .segments)) leaves
               ∙ row-front
-              segmentNumbers index segment-numbers (drop (length segment-numbers) (left .segments-before))
+              segmentNumbers index segment-numbers (drop (length segment-numbers) (left .before .segments))
               (rw (segments-long means) (mul-le-mul-left segmentNumbers below));
         }
 
@@ -161,13 +160,13 @@ module _ {file plants segments : List ℕ} (left : Left file plants segments) wh
       (p : ℕ) → p < P →
       inRow plantNumbers p associatedColumn plants
       ≡ emission plantOwner (suc p) (held file .lines)
-      + sum (map (λ (turn : Turn). getD (charged (held file .lines) turn) p 0) (walk (held file)))
+      + sum (map (λ (turn : Turn). getD (charged (held file .lines) turn) p 0) (turnsOf (held file)))
   charges-of-plant-left p plant = of-plant p associatedColumn plant ∙ charges-of-plant (rows-left left .accepted-file) p plant
 
   -- and with all plants, their own emissions and the charges of all segments
   pub charges-counted-left :
       columnSum plantNumbers associatedColumn P plants
-      ≡ sum (ownEmissions (held file .lines) P) + sum (map (λ (turn : Turn). sum (charged (held file .lines) turn)) (walk (held file)))
+      ≡ sum (ownEmissions (held file .lines) P) + sum (map (λ (turn : Turn). sum (charged (held file .lines) turn)) (turnsOf (held file)))
   charges-counted-left =
       column-same plantNumbers associatedColumn P (rows-left left .plant-numbers) plants (rows-left left .plant-rows)
       ∙ charges-counted (rows-left left .accepted-file)

@@ -7,17 +7,18 @@ mod Crediting
 mod Charging
 mod Columns
 mod Cells
--- All plants at their start, and a segment's turn.
+-- All plants at their start, and how those of a set are sent on.
 mod Starting
-mod Turns
--- The walk of the definitions beside the tables.
-mod Steps
-mod Turning
--- The rows, written one after another, which the C entry does too; and what they are.
-pub mod Writing
-mod Books
+mod SendingOn
+-- The turns of the definitions beside the books.
+mod OnePlantsTurn
+mod BooksAtTurn
+mod TurnWorked
+-- The rows, written one after another, which the C entry does too; and what they are by the books.
+pub mod RowsWritten
+mod RowsByBooks
 -- A period settled, and the whole call.
-mod Accounting
+mod SettledPeriod
 mod Answering
 -- No two outcomes meet the promise of the call; what an accepting call leaves in the lent tables; what is refused, and why.
 pub mod Outcome

@@ -12,15 +12,16 @@ use lib.ListN.{length, getD, set, take, replicate, length-map, length-set, lengt
 use lib.Pow.{shl-exact}
 use lib.Seq.{take-suc, length-take-le, getD-take}
 use borrow.Author.Tests.{eqb-true, eqb-false, eq-eqb, ne-eqb}
+use Rattle.fields.specs.Lists.{Each}
 use Rattle.records.specs.declared.plant.Plant.{Plant}
 use Rattle.records.specs.Plants.{mostPlants, noPlant}
 use Rattle.records.specs.Segments.{mostSegments}
-use Rattle.records.specs.Within.{Each, PlantWithin}
+use Rattle.records.specs.Within.{PlantWithin, mostCounts}
 use Rattle.records.proofs.Within.{each-at}
-use Rattle.accounts.specs.Walk.{Standing, atFirst, passes, brings, nowhere}
+use Rattle.accounts.specs.Flow.{Standing, atFirst, passes, brings, nowhere}
 use Rattle.accounts.specs.Accounts.{setOf}
 use Rattle.accounts.proofs.Sets.{set-with, set-without}
-use Rattle.period.specs.Inside.{Sized, cell, SetsHold, Started}
+use Rattle.period.specs.Books.{Sized, cell, SetsHold, Started}
 use Rattle.period.proofs.Cells.{zeros, no-amount, Filled, none-yet, put-into, put, put-sized, put-filled}
 
 -- ---- before: no amounts, and no plants in the sets
@@ -85,10 +86,10 @@ module _ (plants : List Plant) where
 
   -- ---- the limits of one of the first so many plants
   pub plant-within :
-      (count p : ℕ) → count ≤ length plants → p < count → Each (PlantWithin mostSegments) 1 (take count plants) →
-      PlantWithin mostSegments (suc p) (getD plants p noPlant)
+      (count p : ℕ) → count ≤ length plants → p < count → Each (PlantWithin mostCounts) 1 (take count plants) →
+      PlantWithin mostCounts (suc p) (getD plants p noPlant)
   plant-within count p few h all =
-      rw getD-take at (each-at (PlantWithin mostSegments) 1 (take count plants) p noPlant (suc p) (omega arith) (omega (arith, length-take-le count plants few)) all)
+      rw getD-take at (each-at (PlantWithin mostCounts) 1 (take count plants) p noPlant (suc p) (omega arith) (omega (arith, length-take-le count plants few)) all)
 
   -- ---- the loop: so many plants are at their start, and the others nowhere
   pub record AtStart (p : ℕ) (table : List (List ℕ)) (sets : List ℕ) : Type 0 where
@@ -113,7 +114,7 @@ module _ (plants : List Plant) where
   -- one more, after a turn
   pub one-started :
       {p : ℕ} {table : List (List ℕ)} {sets : List ℕ} → AtStart p table sets →
-      length plants ≡ mostPlants → p < mostPlants → PlantWithin mostSegments (suc p) (getD plants p noPlant) →
+      length plants ≡ mostPlants → p < mostPlants → PlantWithin mostCounts (suc p) (getD plants p noPlant) →
       let plant = getD plants p noPlant in
       AtStart (p + 1) (put table p (plant .first - 1) (plant .exported)) (joined plant p sets)
   one-started {p} {table} {sets} so-far all few w =

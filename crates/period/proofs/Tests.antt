@@ -1,20 +1,26 @@
 -- The tests of a segment and of the tables, in their order: what they come to, whatever tests follow.
-use Prim.Native.Nat.{ℕ, _*_, _≤_, _<_}
+use Prim.Native.Nat.{ℕ, _+_, _*_, _≤_, _<_}
 use mathlib.Core.Path.{_≡_, refl}
 use mathlib.Core.Bool.{false, _&&_, and-false}
 use mathlib.Core.List.{List, [], _∷_}
 use mathlib.Core.Logic.{_⊎_, ⊎-elim}
+use native.Mathlib.Numerals.{add-one}
 use native.Mathlib.Omega.{arith}
 use lib.Dec.{ltb, eqb}
 use borrow.Author.Tests.{lt-ltb, le-ltb, eq-eqb, ne-eqb}
 use Rattle.number.specs.Groups.{largest}
-use Rattle.records.specs.Answers.{accepts, refuses}
-use Rattle.records.specs.Refusals.{inflowTooLarge, outflowOverInflow, emissionWithoutInflow, plantTableShort, segmentTableShort}
+use Rattle.fields.specs.declared.answer.Answer.{Answer}
+use Rattle.fields.specs.declared.answer.Answer.the-variants.{Accepted}
+use Rattle.fields.specs.declared.reason.Reason.the-variants.{InflowTooLarge, OutflowOverInflow, EmissionWithoutInflow, PlantTableShort, SegmentTableShort}
+use Rattle.fields.specs.Reasons.{numberOf}
+use Rattle.fields.specs.Answers.{accepts, refuses, said}
+use Rattle.records.specs.declared.counts.Counts.{Counts}
 use Rattle.accounts.specs.Accounts.{Account}
 use Rattle.accounts.specs.Order.{accepted, Test, tested, segmentTests, plantNumbers, segmentNumbers, tableTests}
 use Rattle.accounts.proofs.Testing.{none-fails}
-use Rattle.accounts.proofs.Accepting.{table-room}
-use Rattle.period.specs.Inside.{Passes}
+use Rattle.accounts.proofs.Accepting.{Sound, sound-each, table-room}
+use Rattle.period.specs.declared.flow.Due.{Due}
+use Rattle.period.specs.Books.{Passes, Books, figures, accountBy}
 
 -- ---- the tests of one segment
 module _ (a : Account) where
@@ -22,21 +28,21 @@ module _ (a : Account) where
   tests = segmentTests (a ∷ [])
 
   -- 11: the inflow is over the largest number
-  pub inflow-refused : largest < a .inflow → Passes (refuses inflowTooLarge (a .own)) tests
+  pub inflow-refused : largest < a .inflow → Passes (refuses (numberOf InflowTooLarge) (a .own)) tests
   unfolding tested segmentTests
-  inflow-refused over = λ rest answer. rw (lt-ltb largest (a .inflow) over) refl
+  inflow-refused over = λ rest ruling. rw (lt-ltb largest (a .inflow) over) refl
 
   -- 12: the outflow is larger than the inflow
-  pub outflow-refused : a .inflow ≤ largest → a .inflow < a .outflow → Passes (refuses outflowOverInflow (a .own)) tests
+  pub outflow-refused : a .inflow ≤ largest → a .inflow < a .outflow → Passes (refuses (numberOf OutflowOverInflow) (a .own)) tests
   unfolding tested segmentTests
-  outflow-refused fits over = λ rest answer. rw (le-ltb largest (a .inflow) fits, lt-ltb (a .inflow) (a .outflow) over) refl
+  outflow-refused fits over = λ rest ruling. rw (le-ltb largest (a .inflow) fits, lt-ltb (a .inflow) (a .outflow) over) refl
 
   -- 13: there is an emission and no inflow
   pub emission-refused :
-      a .inflow ≤ largest → a .outflow ≤ a .inflow → 0 < a .emission → a .inflow ≡ 0 → Passes (refuses emissionWithoutInflow (a .own)) tests
+      a .inflow ≤ largest → a .outflow ≤ a .inflow → 0 < a .emission → a .inflow ≡ 0 → Passes (refuses (numberOf EmissionWithoutInflow) (a .own)) tests
   unfolding tested segmentTests
   emission-refused fits out some none =
-      λ rest answer. rw (
+      λ rest ruling. rw (
         le-ltb largest (a .inflow) fits,
         le-ltb (a .inflow) (a .outflow) out,
         lt-ltb 0 (a .emission) some,
@@ -53,33 +59,49 @@ module _ (a : Account) where
   -- none of them
   pub segment-passes : a .inflow ≤ largest → a .outflow ≤ a .inflow → (a .emission ≤ 0) ⊎ (0 < a .inflow) → Passes accepts tests
   unfolding tested segmentTests
-  segment-passes fits out or = λ rest answer. rw (le-ltb largest (a .inflow) fits, le-ltb (a .inflow) (a .outflow) out, charged or) refl
+  segment-passes fits out or = λ rest ruling. rw (le-ltb largest (a .inflow) fits, le-ltb (a .inflow) (a .outflow) out, charged or) refl
+
+  -- tests that pass tell what they tested
+  pub segment-sound : Passes accepts tests → Sound a
+  unfolding tested segmentTests
+  segment-sound passes = sound-each (a ∷ []) (none-fails tests (accepted [] []) [] [] (passes [] (accepted [] []))) 0 a (omega arith)
+
+-- the tests of the segment whose turn it is, by its figures
+module _
+    (plants : ℕ) (due : Due) (books : Books) (answer : Answer) {inflow : ℕ} (inflow-is : inflow ≡ accountBy plants due books .inflow)
+    (passes : Passes (said answer) (segmentTests (figures (due .index + 1) inflow (due .segment .outflow) (due .emission) ∷ []))) where
+  pub own-tests : Passes (said answer) (segmentTests (accountBy plants due books ∷ []))
+  unfolding segmentTests
+  own-tests = rw (inflow-is, add-one) at passes
+
+  pub own-sound : answer ≡ Accepted → Sound (accountBy plants due books)
+  own-sound is = segment-sound (accountBy plants due books) (rw is at own-tests)
 
 -- ---- the tests of the tables
-module _ (plants segments plantTable segmentTable : ℕ) where
+module _ (counts : Counts) (plantTable segmentTable : ℕ) where
   abbrev table-tests : List Test
-  table-tests = tableTests plants segments plantTable segmentTable
+  table-tests = tableTests counts plantTable segmentTable
 
   -- 14: the plants' table is too short
-  pub plants-refused : plantTable < plantNumbers * plants → Passes (refuses plantTableShort (plantNumbers * plants)) table-tests
+  pub plants-refused : plantTable < plantNumbers * counts .plants → Passes (refuses (numberOf PlantTableShort) (plantNumbers * counts .plants)) table-tests
   unfolding tested
-  plants-refused short = λ rest answer. rw (lt-ltb plantTable (plantNumbers * plants) short) refl
+  plants-refused short = λ rest ruling. rw (lt-ltb plantTable (plantNumbers * counts .plants) short) refl
 
   -- 15: the segments' table is
   pub segments-refused :
-      plantNumbers * plants ≤ plantTable → segmentTable < segmentNumbers * segments → Passes (refuses segmentTableShort (segmentNumbers * segments)) table-tests
+      plantNumbers * counts .plants ≤ plantTable → segmentTable < segmentNumbers * counts .segments → Passes (refuses (numberOf SegmentTableShort) (segmentNumbers * counts .segments)) table-tests
   unfolding tested
   segments-refused enough short =
-      λ rest answer. rw (le-ltb plantTable (plantNumbers * plants) enough, lt-ltb segmentTable (segmentNumbers * segments) short) refl
+      λ rest ruling. rw (le-ltb plantTable (plantNumbers * counts .plants) enough, lt-ltb segmentTable (segmentNumbers * counts .segments) short) refl
 
   -- neither table is too short
-  pub tables-pass : plantNumbers * plants ≤ plantTable → segmentNumbers * segments ≤ segmentTable → Passes accepts table-tests
+  pub tables-pass : plantNumbers * counts .plants ≤ plantTable → segmentNumbers * counts .segments ≤ segmentTable → Passes accepts table-tests
   unfolding tested
   tables-pass enough enough' =
-      λ rest answer. rw (le-ltb plantTable (plantNumbers * plants) enough, le-ltb segmentTable (segmentNumbers * segments) enough') refl
+      λ rest ruling. rw (le-ltb plantTable (plantNumbers * counts .plants) enough, le-ltb segmentTable (segmentNumbers * counts .segments) enough') refl
 
   -- tests that pass leave room for the rows
-  pub room-is : Passes accepts table-tests → (plantNumbers * plants ≤ plantTable) × (segmentNumbers * segments ≤ segmentTable)
+  pub room-is : Passes accepts table-tests → (plantNumbers * counts .plants ≤ plantTable) × (segmentNumbers * counts .segments ≤ segmentTable)
   unfolding tested
   room-is passes =
-      table-room plants segments plantTable segmentTable (none-fails table-tests (accepted [] []) [] [] (passes [] (accepted [] [])))
+      table-room counts plantTable segmentTable (none-fails table-tests (accepted [] []) [] [] (passes [] (accepted [] [])))

@@ -2,32 +2,35 @@
 use Prim.Native.Nat.{ℕ, suc, _+_, _-_, _*_, _≤_, _<_}
 use mathlib.Core.Path.{_≡_, refl, sym, ap, _∙_}
 use mathlib.Core.Bool.{cond}
-use mathlib.Core.List.{List, [], _∷_, _++_, map}
+use mathlib.Core.List.{List, [], _∷_, _++_}
 use native.Mathlib.Nat.{mul-le-mul}
 use native.Mathlib.Decide.{decLe, ℕ-discrete}
 use native.Mathlib.Numerals.{add-one}
 use native.Mathlib.Omega.{arith}
 use lib.Dec.{ltb, eqb}
-use lib.ListN.{length, take, drop, getD, set, length-set, drop-of-length-le, List·getD-map}
+use lib.ListN.{length, take, drop, getD, set, length-set, drop-of-length-le}
 use lib.Seq.{take-all, take-suc, drop-cons, getD-set-same, getD-set-other}
 use borrow.Author.Tests.{lt-ltb, le-ltb, eq-eqb, ne-eqb}
 use Rattle.number.specs.Groups.{largest}
-use Rattle.records.specs.declared.answer.Answer.the-variants.{Accepted, Grams}
+use Rattle.fields.specs.declared.answer.Answer.the-variants.{Accepted}
+use Rattle.fields.specs.declared.reason.Reason.the-variants.{TooManyGrams}
+use Rattle.fields.specs.Reasons.{numberOf}
+use Rattle.fields.specs.Lists.{Each}
+use Rattle.fields.proofs.Answers.{refused-not-accepted}
+use Rattle.records.specs.declared.counts.Counts.{Counts}
 use Rattle.records.specs.declared.line.Line.{Line}
 use Rattle.records.specs.Plants.{mostPlants}
 use Rattle.records.specs.Segments.{mostSegments}
 use Rattle.records.specs.Classes.{plantOwner, segmentOwner}
 use Rattle.records.specs.Lines.{largestFactor, noLine}
-use Rattle.records.specs.Refusals.{tooManyGrams}
-use Rattle.records.specs.Within.{Each, LineWithin}
-use Rattle.records.proofs.Verdicts.{refuses-not-accepts}
+use Rattle.records.specs.Within.{LineWithin, mostCounts}
 use Rattle.records.proofs.Within.{each-at}
 use Rattle.accounts.specs.Emissions.{mostGrams, grams, ownedBy, gramsOf, gramsInKg, inKg, emission}
-use Rattle.accounts.specs.Order.{Answer, refusal, Test, tested, lineTests}
+use Rattle.accounts.specs.Order.{Ruling, refusal, Test, tested, lineTests}
 use Rattle.accounts.proofs.Credits.{up-most}
-use Rattle.accounts.proofs.OwnersLines.{grams-of-both}
-use Rattle.period.specs.Inside.{ownerPlace, FewGrams, AddedUp}
-use Rattle.period.proofs.Cells.{zeros, no-amount}
+use Rattle.accounts.proofs.OwnersLines.{no-grams, grams-with, grams-of-both}
+use Rattle.period.specs.Inside.{Small, ownerPlace, FewGrams, Rounded, tooManyGrams, AddedUp}
+use Rattle.period.proofs.Cells.{zeros, no-amount, UpTo}
 
 -- the places for plants and for segments
 abbrev pub owners : ℕ
@@ -58,17 +61,17 @@ owned {ownerKind} {owner} {place} {place'} line o o' = by-owner (ℕ-discrete (l
 
 -- ---- a line within its limits
 -- the limits do not go by its number
-any-number : {plants segments own : ℕ} {line : Line} → LineWithin plants segments own line → LineWithin plants segments 1 line
+any-number : {counts : Counts} {own : ℕ} {line : Line} → LineWithin counts own line → LineWithin counts 1 line
 any-number within = search
 
 -- so each of some lines is within them, by its index
 pub line-within :
-    (lines : List Line) (l : ℕ) → l < length lines → Each (LineWithin mostPlants mostSegments) 1 lines → LineWithin mostPlants mostSegments 1 (getD lines l noLine)
-line-within lines l more all = any-number (each-at (LineWithin mostPlants mostSegments) 1 lines l noLine (1 + l) refl more all)
+    (lines : List Line) (l : ℕ) → l < length lines → Each (LineWithin mostCounts) 1 lines → LineWithin mostCounts 1 (getD lines l noLine)
+line-within lines l more all = any-number (each-at (LineWithin mostCounts) 1 lines l noLine (1 + l) refl more all)
 
 -- its owner, and the place
 pub line-owner :
-    {own place : ℕ} {line : Line} → LineWithin mostPlants mostSegments own line → place ≡ ownerPlace (line .«owner_kind») (line .owner) →
+    {own place : ℕ} {line : Line} → LineWithin mostCounts own line → place ≡ ownerPlace (line .«owner_kind») (line .owner) →
     Owner (line .«owner_kind») (line .owner) place
 line-owner {own} {place} {line} within is = by-kind (decLe (line .«owner_kind») plantOwner)
   where
@@ -77,28 +80,25 @@ line-owner {own} {place} {line} within is = by-kind (decLe (line .«owner_kind»
     by-kind (no p) = let most : line .owner ≤ mostSegments = within .segment (omega arith) in omega arith
 
 -- its grams
-pub line-grams : {plants segments own : ℕ} {line : Line} → LineWithin plants segments own line → grams line ≤ largest * largestFactor
+pub line-grams : {counts : Counts} {own : ℕ} {line : Line} → LineWithin counts own line → grams line ≤ largest * largestFactor
 line-grams within = mul-le-mul (within .quantity) (within .factor)
 
 -- ---- totals
 -- an owner's total with one more line
 grams-after :
     (ownerKind owner : ℕ) (lines : List Line) (line : Line) →
-    gramsOf ownerKind owner (lines ++ (line ∷ [])) ≡ gramsOf ownerKind owner lines + cond (ownedBy ownerKind owner line) (grams line) 0
-unfolding gramsOf
-grams-after ownerKind owner lines line = omega (arith, grams-of-both ownerKind owner lines (line ∷ []))
-
--- a total that does not pass the limit is no more kg than a number may be
-few-kg : (total : ℕ) → total ≤ mostGrams → inKg total ≤ largest
-few-kg total few = up-most gramsInKg total largest (omega arith)
+    gramsOf (ownedBy ownerKind owner) (lines ++ (line ∷ [])) ≡ gramsOf (ownedBy ownerKind owner) lines + cond (ownedBy ownerKind owner line) (grams line) 0
+grams-after ownerKind owner lines line =
+    let choose = ownedBy ownerKind owner in
+    omega (arith, grams-of-both choose lines (line ∷ []), grams-with choose line [], no-grams choose)
 
 -- ---- the loop: so many lines are added up, owner by owner, and passed their tests
 pub record Adding (lines : List Line) (totals : List ℕ) (l : ℕ) : Type 0 where
   pub places : length totals ≡ owners
   pub few : FewGrams totals
-  pub total : (ownerKind owner place : ℕ) → Owner ownerKind owner place → getD totals place 0 ≡ gramsOf ownerKind owner (take l lines)
+  pub total : (ownerKind owner place : ℕ) → Owner ownerKind owner place → getD totals place 0 ≡ gramsOf (ownedBy ownerKind owner) (take l lines)
   pub passed :
-      (rest : List Test) (answer : Answer) → tested (lineTests lines 0 lines ++ rest) answer ≡ tested (lineTests lines l (drop l lines) ++ rest) answer
+      (rest : List Test) (ruling : Ruling) → tested (lineTests lines 0 lines ++ rest) ruling ≡ tested (lineTests lines l (drop l lines) ++ rest) ruling
 
 -- the line of a turn, and the place of its owner's total
 pub record Next (lines : List Line) (l : ℕ) (line : Line) (place : ℕ) : Type 0 where
@@ -108,12 +108,11 @@ pub record Next (lines : List Line) (l : ℕ) (line : Line) (place : ℕ) : Type
 
 -- no line is added up yet
 pub adding-start : (lines : List Line) → Adding lines (zeros owners) 0
-unfolding gramsOf
 adding-start lines = record {
   places = refl;
   few = λ o. rw (no-amount owners o) (omega arith);
-  total = λ ownerKind owner place o. no-amount owners place;
-  passed = λ rest answer. refl;
+  total = λ ownerKind owner place o. no-amount owners place ∙ sym (no-grams (ownedBy ownerKind owner));
+  passed = λ rest ruling. refl;
 }
 
 module _ {lines : List Line} {totals : List ℕ} {l : ℕ} {line : Line} {place : ℕ} (a : Adding lines totals l) (next : Next lines l line place) where
@@ -124,20 +123,20 @@ module _ {lines : List Line} {totals : List ℕ} {l : ℕ} {line : Line} {place 
   -- an owner's total, with this line
   total-after :
       (ownerKind owner place' : ℕ) → Owner ownerKind owner place' →
-      gramsOf ownerKind owner (take (suc l) lines) ≡ getD totals place' 0 + cond (eqb place' place) (grams line) 0
+      gramsOf (ownedBy ownerKind owner) (take (suc l) lines) ≡ getD totals place' 0 + cond (eqb place' place) (grams line) 0
   total-after ownerKind owner place' o =
-      ap (gramsOf ownerKind owner) (take-suc lines l noLine (next .more))
+      ap (gramsOf (ownedBy ownerKind owner)) (take-suc lines l noLine (next .more))
       ∙ grams-after ownerKind owner (take l lines) (getD lines l noLine)
       ∙ rw (next .line-is, owned line (next .owner) o, a .total ownerKind owner place' o)
 
   -- that total is what the line's test looks at
   line-tested :
-      (rest : List Test) (answer : Answer) →
-      tested (lineTests lines 0 lines ++ rest) answer
-      ≡ cond (ltb mostGrams line-total) (refusal tooManyGrams (suc l)) (tested (lineTests lines (suc l) (drop (suc l) lines) ++ rest) answer)
+      (rest : List Test) (ruling : Ruling) →
+      tested (lineTests lines 0 lines ++ rest) ruling
+      ≡ cond (ltb mostGrams line-total) (refusal (numberOf TooManyGrams) (suc l)) (tested (lineTests lines (suc l) (drop (suc l) lines) ++ rest) ruling)
   unfolding tested lineTests
-  line-tested rest answer =
-      a .passed rest answer
+  line-tested rest ruling =
+      a .passed rest ruling
       ∙ rw (drop-cons lines l noLine (next .more), next .line-is, total-after (line .«owner_kind») (line .owner) place (next .owner), eq-eqb place place refl)
 
   -- when it is written at its place, what holds of it there and of the other totals at theirs holds everywhere
@@ -164,32 +163,49 @@ module _ {lines : List Line} {totals : List ℕ} {l : ℕ} {line : Line} {place 
     places = length-set totals place line-total ∙ a .places;
     few = written (λ (place' total : ℕ). total ≤ mostGrams) few (λ place' p. a .few place');
     total = λ ownerKind owner place' o. written-total place' ∙ sym (total-after ownerKind owner place' o);
-    passed = λ rest answer. line-tested rest answer ∙ rw (le-ltb mostGrams line-total few);
+    passed = λ rest ruling. line-tested rest ruling ∙ rw (le-ltb mostGrams line-total few);
   })
 
   -- the line fails its test
-  pub adding-refused : mostGrams < line-total → AddedUp (record { answer = Grams (l + 1); kg = zeros owners }) lines
+  pub adding-refused : mostGrams < line-total → AddedUp (tooManyGrams (l + 1)) lines
   adding-refused many = record {
-    tests = λ rest answer. line-tested rest answer ∙ rw (lt-ltb mostGrams line-total many, add-one l);
-    kg = λ is. absurd (refuses-not-accepts is);
-    small = λ o. rw (no-amount owners o) (omega arith);
+    tests = λ rest ruling. line-tested rest ruling ∙ rw (lt-ltb mostGrams line-total many, add-one l);
+    emitted = λ is. absurd (refused-not-accepted is);
+    small = record { plants = no-kg; segments = no-kg };
   }
+    where
+      no-kg : Small (zeros mostSegments)
+      no-kg o = rw (no-amount mostSegments o) (omega arith)
 
--- no line is left
+-- ---- the totals in kg
+-- a total that does not pass the limit is no more kg than a number may be
+few-kg : (total : ℕ) → total ≤ mostGrams → inKg total ≤ largest
+few-kg total few = up-most gramsInKg total largest (omega arith)
+
+-- so many totals were rounded, one after another, and none behind them
+pub all-rounded :
+    {totals kg : List ℕ} {first count : ℕ} → FewGrams totals → UpTo count (λ o. inKg (getD totals (first + o) 0)) (λ o. 0) (λ o. getD kg o 0) →
+    Rounded totals first count kg
+all-rounded {totals} {kg} {first} {count} few done = record { each = done .done; small = λ o. by-place o (decLe (suc o) count) }
+  where
+    by-place : (o : ℕ) → Dec (suc o ≤ count) → getD kg o 0 ≤ largest
+    by-place o (yes here) = rw (done .done o here) (few-kg (getD totals (first + o) 0) (few (first + o)))
+    by-place o (no behind) = rw (done .left o (omega arith)) (omega arith)
+
+-- no line is left, and all totals are rounded
 pub adding-end :
-    {lines : List Line} {totals : List ℕ} {l : ℕ} → Adding lines totals l → length lines ≤ l →
-    AddedUp (record { answer = Accepted; kg = map inKg totals }) lines
+    {lines : List Line} {totals : List ℕ} {l : ℕ} {plants segments : List ℕ} → Adding lines totals l → length lines ≤ l →
+    Rounded totals 0 mostPlants plants → Rounded totals mostPlants mostSegments segments →
+    AddedUp (record { answer = Accepted; plants = plants; segments = segments }) lines
 unfolding emission tested lineTests
-adding-end {lines} {totals} {l} a all = record {
-  tests = λ rest answer. a .passed rest answer ∙ rw (drop-of-length-le lines all);
-  kg = λ is. record {
-    plants = λ p h. in-kg plantOwner (suc p) p (omega arith);
-    segments = λ s h. in-kg segmentOwner (suc s) (mostPlants + s) (omega arith);
+adding-end {lines} {totals} {l} a all plants segments = record {
+  tests = λ rest ruling. a .passed rest ruling ∙ rw (drop-of-length-le lines all);
+  emitted = λ is. record {
+    plants = λ p h. plants .each p h ∙ in-kg plantOwner (suc p) (0 + p) (omega arith);
+    segments = λ s h. segments .each s h ∙ in-kg segmentOwner (suc s) (mostPlants + s) (omega arith);
   };
-  small = λ o. rw (List·getD-map inKg totals o 0) (few-kg (getD totals o 0) (a .few o));
+  small = record { plants = plants .small; segments = segments .small };
 }
   where
-    in-kg : (ownerKind owner place : ℕ) → Owner ownerKind owner place → getD (map inKg totals) place 0 ≡ emission ownerKind owner lines
-    in-kg ownerKind owner place o =
-        List·getD-map inKg totals place 0
-        ∙ ap inKg (a .total ownerKind owner place o ∙ ap (gramsOf ownerKind owner) (take-all l lines all))
+    in-kg : (ownerKind owner place : ℕ) → Owner ownerKind owner place → inKg (getD totals place 0) ≡ emission ownerKind owner lines
+    in-kg ownerKind owner place o = ap inKg (a .total ownerKind owner place o ∙ ap (gramsOf (ownedBy ownerKind owner)) (take-all l lines all))

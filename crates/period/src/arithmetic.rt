@@ -1,7 +1,7 @@
 // The arithmetic of whole numbers that the equations use. Division by 0 gives 0.
 ghost use mathlib.Core.Path.{_≡_};
 ghost use Prim.Native.Nat.{_+_, _-_, _/_, _^_, _<_};
-ghost use Rattle.accounts.specs.Emissions.{roundedUp};
+ghost use Rattle.accounts.specs.Sums.{roundedUp};
 
 // A quotient, rounded down; 0 where the divisor is.
 pub(crate) fn rounded_down(n: u64, d: u64) -> u64

@@ -3,25 +3,33 @@
 // A plant has an amount at the segments of its route and 0 elsewhere. A segment's set tells which
 // plants' routes pass it, also those that bring 0.
 ghost use mathlib.Core.Path.{_≡_};
+ghost use mathlib.Core.List.{[], _∷_};
 ghost use Prim.Native.Nat.{_^_, _≤_, _<_, suc};
 ghost use lib.ListN.{length, replicate, take};
 ghost use Rattle.number.specs.Groups.{largest};
+ghost use Rattle.fields.specs.Answers.{said};
+ghost use Rattle.fields.specs.Lists.{Each};
 ghost use Rattle.records.specs.Plants.{mostPlants};
 ghost use Rattle.records.specs.Segments.{mostSegments};
-ghost use Rattle.records.specs.Within.{Each, PlantWithin, SegmentWithin};
-ghost use Rattle.accounts.specs.Walk.{sum, credits as creditsOf};
+ghost use Rattle.records.specs.Within.{PlantWithin, SegmentWithin, mostCounts};
+ghost use Rattle.accounts.specs.Sums.{sum};
+ghost use Rattle.accounts.specs.Flow.{credits as creditsOf};
 ghost use Rattle.accounts.specs.Accounts.{hasBit};
-ghost use Rattle.period.specs.Inside.{column, Sent, Sized, Small, Started, Stored, Worked};
+ghost use Rattle.accounts.specs.Order.{segmentTests};
+ghost use Rattle.period.specs.Books.{BooksSized, booksOf, column, figures, Passes, Sent, Sized, Started, Stored, Worked};
+ghost use Rattle.period.specs.Inside.{Small};
 use crate::arithmetic::rounded_down;
+use fields::Answer;
+use fields::Reason;
 use number::Number;
-use records::Answer;
 use records::Plant;
 use records::Segment;
 
-// What a segment's turn comes to: its inflow, or the reason to refuse the period.
-pub(crate) enum Turn {
-    Worked { inflow: u64 },
-    Refused { answer: Answer },
+// The segment whose turn it is: its index, its record, and what it emits in kg.
+pub(crate) struct Due {
+    pub(crate) index: usize,
+    pub(crate) segment: Segment,
+    pub(crate) emission: u64,
 }
 
 // Puts every plant's export at its first segment, and the plant into that segment's set.
@@ -32,7 +40,7 @@ pub(crate) fn start(
     count: usize,
 )
     requires { ⌜ count ≤ mostPlants ⌝ }
-    requires { ⌜ Each (PlantWithin mostSegments) 1 (take count plants) ⌝ }
+    requires { ⌜ Each (PlantWithin mostCounts) 1 (take count plants) ⌝ }
     requires { ⌜ now amounts ≡ replicate mostPlants (replicate mostSegments 0) ⌝ }
     requires { ⌜ now sets ≡ replicate mostSegments 0 ⌝ }
     ensures { λ _. ⌜ Started (take count plants) (now (amounts .exit)) (now (sets .exit)) ⌝ }
@@ -47,43 +55,31 @@ pub(crate) fn start(
     }
 }
 
-// Works one segment, with its emission: tests it, and sends the plants of its set on with their credits.
+// Works one segment: tests it, notes its inflow, and sends the plants of its set on with their credits.
 pub(crate) fn work(
     amounts: &mut [[u32; Segment::MOST]; Plant::MOST],
     sets: &mut [u64; Segment::MOST],
+    inflows: &mut [u64; Segment::MOST],
     stored: &mut [u64; Plant::MOST],
     plants: usize,
-    s: usize,
-    segment: Segment,
-    emission: u64,
-) -> Turn
+    due: Due,
+) -> Answer
     requires { ⌜ plants ≤ mostPlants ⌝ }
-    requires { ⌜ s < mostSegments ⌝ }
-    requires { ⌜ SegmentWithin mostSegments (suc s) segment ⌝ }
-    requires { ⌜ Sized (now amounts) ⌝ }
-    requires { ⌜ length (now sets) ≡ mostSegments ⌝ }
-    requires { ⌜ length (now stored) ≡ mostPlants ⌝ }
-    requires { ⌜ sum (column plants s (now amounts)) < 2 ^ 64 ⌝ }
-    ensures { λ r. ⌜ Worked plants s segment emission r (now (amounts .entry)) (now (amounts .exit)) (now (sets .entry)) (now (sets .exit)) (now (stored .entry)) (now (stored .exit)) ⌝ }
+    requires { ⌜ due .index < mostSegments ⌝ }
+    requires { ⌜ SegmentWithin mostCounts (suc (due .index)) (due .segment) ⌝ }
+    requires { ⌜ BooksSized (booksOf (now amounts) (now sets) (now inflows) (now stored)) ⌝ }
+    requires { ⌜ sum (column plants (due .index) (now amounts)) < 2 ^ 64 ⌝ }
+    ensures { λ r. ⌜ Worked plants due (booksOf (now (amounts .entry)) (now (sets .entry)) (now (inflows .entry)) (now (stored .entry))) r (booksOf (now (amounts .exit)) (now (sets .exit)) (now (inflows .exit)) (now (stored .exit))) ⌝ }
 {
-    let place = s as u64 + 1;
+    let s = due.index;
+    let segment = due.segment;
     let outflow = segment.outflow as u64;
     let inflow = inflow_of(amounts, plants, s);
-    if Number::LARGEST < inflow {
-        return Turn::Refused {
-            answer: Answer::Inflow { place },
-        };
+    let answer = test(s as u64 + 1, inflow, outflow, due.emission);
+    if let Answer::Refused(_refusal) = answer {
+        return answer;
     }
-    if inflow < outflow {
-        return Turn::Refused {
-            answer: Answer::Outflow { place },
-        };
-    }
-    if 0 < emission && inflow == 0 {
-        return Turn::Refused {
-            answer: Answer::Emission { place },
-        };
-    }
+    inflows[s] = inflow;
     let credits = credits(amounts, plants, s, inflow, outflow);
     let set = sets[s];
     let next = segment.next as usize;
@@ -93,7 +89,7 @@ pub(crate) fn work(
         send(amounts, plants, set, credits, next - 1);
         sets[next - 1] |= set;
     }
-    Turn::Worked { inflow }
+    answer
 }
 
 // "Inflow A is the sum over the plants whose route passes"; all others have 0 there.
@@ -111,6 +107,22 @@ fn inflow_of(amounts: &[[u32; Segment::MOST]; Plant::MOST], plants: usize, s: us
         p += 1;
     }
     inflow
+}
+
+// The tests of the segment with its own number, in their order.
+fn test(own: u64, inflow: u64, outflow: u64, emission: u64) -> Answer
+    ensures { λ r. ⌜ Passes (said r) (segmentTests (figures own inflow outflow emission ∷ [])) ⌝ }
+{
+    if Number::LARGEST < inflow {
+        return Answer::refused(Reason::InflowTooLarge, own);
+    }
+    if inflow < outflow {
+        return Answer::refused(Reason::OutflowOverInflow, own);
+    }
+    if 0 < emission && inflow == 0 {
+        return Answer::refused(Reason::EmissionWithoutInflow, own);
+    }
+    Answer::Accepted
 }
 
 // "With the plants in rising number": every plant's credit, by the running sums of the amounts.

@@ -5,6 +5,7 @@
 // crate `accounts`; the promise of the call is an equation with the last of them.
 mod arithmetic;
 pub mod call;
+mod charges;
 mod emissions;
 mod flow;
 mod rows;

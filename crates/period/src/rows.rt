@@ -5,19 +5,10 @@ ghost use Prim.Native.Nat.{_+_, _*_, _≤_};
 ghost use lib.ListN.{length, take, drop};
 ghost use Rattle.number.specs.Groups.{largest};
 ghost use Rattle.records.specs.Plants.{millionths};
-ghost use Rattle.records.specs.Segments.{mostSegments};
 ghost use Rattle.accounts.specs.Rows.{plantRow, segmentRow};
 ghost use Rattle.accounts.specs.Order.{plantNumbers, segmentNumbers};
-ghost use Rattle.period.specs.Inside.{
-  Chargeable,
-  chargesBy,
-  PlantsWritable,
-  plantRowsBy,
-  SegmentsWritable,
-  segmentRowsBy,
-};
+ghost use Rattle.period.specs.Inside.{PlantsWritable, plantRowsBy, SegmentsWritable, segmentRowsBy};
 use crate::arithmetic::excess;
-use crate::arithmetic::rounded_up;
 use crate::emissions::Emissions;
 use records::Plant;
 use records::Segment;
@@ -35,42 +26,23 @@ pub(crate) fn write_plants(
     table: &mut [u64],
     plants: [Plant; Plant::MOST],
     count: usize,
-    amounts: &[[u32; Segment::MOST]; Plant::MOST],
     stored: [u64; Plant::MOST],
-    segments: usize,
-    inflows: [u64; Segment::MOST],
-    kg: [u64; Emissions::OWNERS],
+    associated: [u64; Plant::MOST],
 )
-    requires { ⌜ PlantsWritable plants (now amounts) stored segments inflows kg count (length (now table)) ⌝ }
-    ensures { λ _. ⌜ now (table .exit) ≡ plantRowsBy plants (now (amounts .entry)) stored segments inflows kg count ++ drop (plantNumbers * count) (now (table .entry)) ⌝ }
+    requires { ⌜ PlantsWritable plants stored count (length (now table)) ⌝ }
+    ensures { λ _. ⌜ now (table .exit) ≡ plantRowsBy plants stored associated count ++ drop (plantNumbers * count) (now (table .entry)) ⌝ }
 {
     let mut p = 0;
     while p < count {
-        let associated = kg[p] + charges(amounts[p], segments, inflows, kg);
-        write_plant(table, PLANT_NUMBERS * p, plants[p], stored[p], associated);
+        write_plant(
+            table,
+            PLANT_NUMBERS * p,
+            plants[p],
+            stored[p],
+            associated[p],
+        );
         p += 1;
     }
-}
-
-// "all its charges": what the segments charge to a plant for the amounts that it brings.
-fn charges(
-    amounts: [u32; Segment::MOST],
-    segments: usize,
-    inflows: [u64; Segment::MOST],
-    kg: [u64; Emissions::OWNERS],
-) -> u64
-    requires { ⌜ segments ≤ mostSegments ⌝ }
-    requires { ⌜ Chargeable segments amounts inflows kg ⌝ }
-    ensures { λ r. ⌜ r ≡ chargesBy amounts inflows kg segments ⌝ }
-    ensures { λ r. ⌜ r ≤ segments * largest ⌝ }
-{
-    let mut charges = 0;
-    let mut s = 0;
-    while s < segments {
-        charges += rounded_up(amounts[s] as u64 * kg[Plant::MOST + s], inflows[s]);
-        s += 1;
-    }
-    charges
 }
 
 // Writes one plant's row.
@@ -99,12 +71,12 @@ pub(crate) fn write_segments(
     table: &mut [u64],
     segments: [Segment; Segment::MOST],
     count: usize,
-    sets: [u64; Segment::MOST],
     inflows: [u64; Segment::MOST],
-    kg: [u64; Emissions::OWNERS],
+    sets: [u64; Segment::MOST],
+    emissions: [u64; Emissions::OWNERS],
 )
-    requires { ⌜ SegmentsWritable segments sets inflows kg count (length (now table)) ⌝ }
-    ensures { λ _. ⌜ now (table .exit) ≡ segmentRowsBy segments sets inflows kg count ++ drop (segmentNumbers * count) (now (table .entry)) ⌝ }
+    requires { ⌜ SegmentsWritable segments inflows count (length (now table)) ⌝ }
+    ensures { λ _. ⌜ now (table .exit) ≡ segmentRowsBy segments inflows sets emissions count ++ drop (segmentNumbers * count) (now (table .entry)) ⌝ }
 {
     let mut s = 0;
     while s < count {
@@ -113,7 +85,7 @@ pub(crate) fn write_segments(
             SEGMENT_NUMBERS * s,
             inflows[s],
             segments[s].outflow as u64,
-            kg[Plant::MOST + s],
+            emissions[s],
             sets[s],
         );
         s += 1;

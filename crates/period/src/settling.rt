@@ -1,41 +1,40 @@
 // A period's accounts: its segments worked in rising number, the room in the lent tables, and the rows.
-ghost use Prim.Native.Nat.{_≤_};
 ghost use lib.ListN.{take};
-ghost use Rattle.records.specs.Plants.{mostPlants};
-ghost use Rattle.records.specs.Segments.{mostSegments};
-ghost use Rattle.records.specs.Answers.{said};
-ghost use Rattle.records.specs.Within.{Each, PlantWithin, SegmentWithin};
+ghost use Rattle.fields.specs.Answers.{said};
+ghost use Rattle.records.specs.Within.{CountsWithin};
 ghost use Rattle.accounts.specs.Order.{tableTests};
-ghost use Rattle.period.specs.Inside.{Passes, Settled, Small};
+ghost use Rattle.period.specs.Written.{lent};
+ghost use Rattle.period.specs.Books.{Passes};
+ghost use Rattle.period.specs.Inside.{Given, Settled};
+use crate::charges::associated_with;
 use crate::emissions::Emissions;
-use crate::flow::Turn;
+use crate::flow::Due;
 use crate::flow::start;
 use crate::flow::work;
 use crate::rows::PLANT_NUMBERS;
 use crate::rows::SEGMENT_NUMBERS;
 use crate::rows::write_plants;
 use crate::rows::write_segments;
-use records::Answer;
+use fields::Answer;
+use fields::Reason;
+use records::Counts;
 use records::Plant;
 use records::Segment;
 
 // Settles a period of so many plants and segments, whose owners emit so many kg.
 pub(crate) fn settle(
     plants: [Plant; Plant::MOST],
-    plant_count: usize,
     segments: [Segment; Segment::MOST],
-    segment_count: usize,
-    kg: [u64; Emissions::OWNERS],
+    counts: Counts,
+    emissions: Emissions,
     plant_table: &mut [u64],
     segment_table: &mut [u64],
 ) -> Answer
-    requires { ⌜ «plant_count» ≤ mostPlants ⌝ }
-    requires { ⌜ «segment_count» ≤ mostSegments ⌝ }
-    requires { ⌜ Each (PlantWithin «segment_count») 1 (take «plant_count» plants) ⌝ }
-    requires { ⌜ Each (SegmentWithin «segment_count») 1 (take «segment_count» segments) ⌝ }
-    requires { ⌜ Small kg ⌝ }
-    ensures { λ r. ⌜ Settled (take «plant_count» plants) (take «segment_count» segments) kg (said r) (now («plant_table» .entry)) (now («plant_table» .exit)) (now («segment_table» .entry)) (now («segment_table» .exit)) ⌝ }
+    requires { ⌜ Given plants segments counts emissions ⌝ }
+    ensures { λ r. ⌜ Settled (take (counts .plants) plants) (take (counts .segments) segments) emissions (said r) (lent (now («plant_table» .entry)) (now («segment_table» .entry))) (lent (now («plant_table» .exit)) (now («segment_table» .exit))) ⌝ }
 {
+    let plant_count = counts.plants as usize;
+    let segment_count = counts.segments as usize;
     let mut amounts = [[0u32; Segment::MOST]; Plant::MOST];
     let mut sets = [0u64; Segment::MOST];
     let mut inflows = [0u64; Segment::MOST];
@@ -43,58 +42,47 @@ pub(crate) fn settle(
     start(&mut amounts, &mut sets, plants, plant_count);
     let mut s = 0;
     while s < segment_count {
-        match work(
+        let due = Due {
+            index: s,
+            segment: segments[s],
+            emission: emissions.segments[s],
+        };
+        let answer = work(
             &mut amounts,
             &mut sets,
+            &mut inflows,
             &mut stored,
             plant_count,
-            s,
-            segments[s],
-            kg[Plant::MOST + s],
-        ) {
-            Turn::Refused { answer } => return answer,
-            Turn::Worked { inflow } => inflows[s] = inflow,
+            due,
+        );
+        if let Answer::Refused(_refusal) = answer {
+            return answer;
         }
         s += 1;
     }
-    let answer = room(
-        plant_count,
-        segment_count,
-        plant_table.len(),
-        segment_table.len(),
-    );
-    let Answer::Accepted = answer else {
+    let answer = room(counts, plant_table.len(), segment_table.len());
+    if let Answer::Refused(_refusal) = answer {
         return answer;
-    };
-    write_plants(
-        plant_table,
-        plants,
-        plant_count,
-        &amounts,
-        stored,
-        segment_count,
-        inflows,
-        kg,
-    );
-    write_segments(segment_table, segments, segment_count, sets, inflows, kg);
-    Answer::Accepted
+    }
+    let associated = associated_with(&amounts, inflows, emissions, counts);
+    write_plants(plant_table, plants, plant_count, stored, associated);
+    let kg = emissions.segments;
+    write_segments(segment_table, segments, segment_count, inflows, sets, kg);
+    answer
 }
 
 // Whether tables of so many numbers have room for the rows of so many plants and segments.
-fn room(plants: usize, segments: usize, plant_table: usize, segment_table: usize) -> Answer
-    requires { ⌜ plants ≤ mostPlants ⌝ }
-    requires { ⌜ segments ≤ mostSegments ⌝ }
-    ensures { λ r. ⌜ Passes (said r) (tableTests plants segments «plant_table» «segment_table») ⌝ }
+fn room(counts: Counts, plant_table: usize, segment_table: usize) -> Answer
+    requires { ⌜ CountsWithin counts ⌝ }
+    ensures { λ r. ⌜ Passes (said r) (tableTests counts «plant_table» «segment_table») ⌝ }
 {
-    if plant_table < PLANT_NUMBERS * plants {
-        return Answer::PlantTable {
-            place: (PLANT_NUMBERS * plants) as u64,
-        };
+    let plants_need = PLANT_NUMBERS * counts.plants as usize;
+    if plant_table < plants_need {
+        return Answer::refused(Reason::PlantTableShort, plants_need as u64);
     }
-    if segment_table < SEGMENT_NUMBERS * segments {
-        return Answer::SegmentTable {
-            place: (SEGMENT_NUMBERS * segments) as u64,
-        };
+    let segments_need = SEGMENT_NUMBERS * counts.segments as usize;
+    if segment_table < segments_need {
+        return Answer::refused(Reason::SegmentTableShort, segments_need as u64);
     }
     Answer::Accepted
 }

@@ -5,10 +5,12 @@
 // line of a file that was read is "A" and all its numbers in file order, as the records hold them;
 // that of a refused file is "R refusal place". Input that is no whole case is said on standard error
 // and ends the run.
+use fields::Answer;
+use fields::Refusal;
 use libc::STDERR_FILENO;
 use libc::STDIN_FILENO;
 use libc::STDOUT_FILENO;
-use records::Answer;
+use records::Counts;
 use records::Header;
 use records::Line;
 use records::Plant;
@@ -76,14 +78,12 @@ fn answer_file(file: &mut [u8]) -> bool {
 // Prints the line of a reading, and answers whether it could be written.
 fn print(reading: Reading) -> bool {
     let answer = reading.answer;
-    let Answer::Accepted = answer else {
-        return print_refusal(answer);
-    };
+    if let Answer::Refused(refusal) = answer {
+        return print_refusal(refusal);
+    }
     io::write_all(STDOUT_FILENO, b"A")
         && print_number(Header::EDITION)
-        && print_number(reading.plant_count as u64)
-        && print_number(reading.segment_count as u64)
-        && print_number(reading.line_count as u64)
+        && print_counts(reading.counts)
         && print_plants(reading)
         && print_segments(reading)
         && print_lines(reading)
@@ -91,10 +91,11 @@ fn print(reading: Reading) -> bool {
 }
 
 // "R, number, place"
-fn print_refusal(answer: Answer) -> bool {
+fn print_refusal(refusal: Refusal) -> bool {
+    let reason = refusal.reason;
     io::write_all(STDOUT_FILENO, b"R")
-        && print_number(answer.refusal() as u64)
-        && print_number(answer.place())
+        && print_number(reason.number() as u64)
+        && print_number(refusal.place)
         && io::write_all(STDOUT_FILENO, b"\n")
 }
 
@@ -103,9 +104,13 @@ fn print_number(value: u64) -> bool {
     io::write_all(STDOUT_FILENO, b" ") && io::print_decimal(STDOUT_FILENO, value)
 }
 
+fn print_counts(counts: Counts) -> bool {
+    print_number(counts.plants) && print_number(counts.segments) && print_number(counts.lines)
+}
+
 fn print_plants(reading: Reading) -> bool {
     let mut p = 0;
-    while p < Plant::MOST && p < reading.plant_count {
+    while p < Plant::MOST && p < reading.counts.plants as usize {
         if !print_plant(reading.plants[p]) {
             return false;
         }
@@ -122,7 +127,7 @@ fn print_plant(plant: Plant) -> bool {
 
 fn print_segments(reading: Reading) -> bool {
     let mut s = 0;
-    while s < Segment::MOST && s < reading.segment_count {
+    while s < Segment::MOST && s < reading.counts.segments as usize {
         if !print_segment(reading.segments[s]) {
             return false;
         }
@@ -139,7 +144,7 @@ fn print_segment(segment: Segment) -> bool {
 
 fn print_lines(reading: Reading) -> bool {
     let mut l = 0;
-    while l < Line::MOST && l < reading.line_count {
+    while l < Line::MOST && l < reading.counts.lines as usize {
         if !print_line(reading.lines[l]) {
             return false;
         }

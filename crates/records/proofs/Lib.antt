@@ -1,19 +1,15 @@
--- The tests of fields, and the rule of the class table.
-mod Ranges
+-- The tests of fields, the rule of the class table, and the fields of each record by their index.
+mod FieldRanges
 mod Table
 mod Classes
--- What a file's bytes are as a run of numbers, and how a run is read.
-pub mod Runs
-pub mod Fields
-pub mod Readers
-pub mod Verdicts
-mod Stages
-pub mod Whole
+mod HeaderFields
+mod RecordFields
+-- The stages of reading a period, and how they end.
 mod WaysOut
-mod Headers
 -- What is known along the reading of a period: what a file that was read holds, and how long it is.
-pub mod Periods
+pub mod PeriodAlong
 pub mod Within
 pub mod Longest
+pub mod NumbersConsumed
 -- No two outcomes meet a promise.
 pub mod Outcome

@@ -10,20 +10,22 @@ use Rattle.number.specs.Groups.{mostGroups, largest}
 use Rattle.number.specs.Reading.{readAt}
 use Rattle.number.specs.Writing.{writing, written}
 use Rattle.number.proofs.Laws.{only-five-bytes}
-use Rattle.records.specs.Plants.{mostPlants, millionths}
-use Rattle.records.specs.Segments.{mostSegments, store}
+use Rattle.fields.specs.declared.reason.Reason.{Reason}
+use Rattle.fields.specs.Run.{run}
+use Rattle.fields.specs.Readers.{Reader, Read, read, refused, reads}
+use Rattle.fields.specs.Files.{ended}
+use Rattle.fields.proofs.Runs.{number-at}
+use Rattle.fields.proofs.FieldByField.{Comes, done as all-read, goes, fails, stops, comes, goes-over}
+use Rattle.fields.proofs.EndOfFile.{more-left, none-left}
+use Rattle.fields.proofs.Along.{Along, done, needed}
+use Rattle.records.specs.declared.counts.Counts.{Counts}
+use Rattle.records.specs.Plants.{mostPlants, plantBytes, millionths}
+use Rattle.records.specs.Segments.{mostSegments, segmentBytes, store}
 use Rattle.records.specs.Classes.{classes, segmentOwner}
-use Rattle.records.specs.Lines.{mostLines, largestFactor}
-use Rattle.records.specs.Run.{run}
-use Rattle.records.specs.Fields.{Reader, Read, read, refused, reads}
-use Rattle.records.specs.Periods.{Header, edition, header, period, ended, periodFile}
-use Rattle.records.specs.Headers.{telling, headerOf}
-use Rattle.records.specs.Longest.{headerBytes, plantBytes, segmentBytes, lineBytes, mostBytes}
-use Rattle.records.proofs.Runs.{number-at}
-use Rattle.records.proofs.Fields.{Comes, done as all-read, goes, fails, stops, comes, goes-over}
-use Rattle.records.proofs.Readers.{Along, done, needed}
-use Rattle.records.proofs.Whole.{more-left, none-left}
-use Rattle.records.proofs.Periods.{Stands, header-along, period-along}
+use Rattle.records.specs.Lines.{mostLines, lineBytes, largestFactor}
+use Rattle.records.specs.Headers.{edition, header, headerBytes, telling, headerOf}
+use Rattle.records.specs.Periods.{period, periodFile, mostBytes}
+use Rattle.records.proofs.PeriodAlong.{Placed, header-along, period-along}
 
 -- ---- a file, and its front that is longer than the longest file
 module _ (file : List ℕ) (n : ℕ) (longer : mostBytes < n) where
@@ -44,8 +46,8 @@ module _ (file : List ℕ) (n : ℕ) (longer : mostBytes < n) where
 
   -- a reader comes to the same in both, where there is room for each number that it needs
   alike :
-      {A : Type 0} {Field : (place refusal : ℕ) → Type 0} {P : A → (place at : ℕ) → Type 0} {reader : Reader A} {place at : ℕ} {outcome : Read A} →
-      ((what : A) (place at : ℕ) → P what place at → at ≤ mostBytes) → Along file (Stands Field) P reader place at →
+      {A : Type 0} {Field : (place : ℕ) → Reason → Type 0} {P : A → (place at : ℕ) → Type 0} {reader : Reader A} {place at : ℕ} {outcome : Read A} →
+      ((what : A) (place at : ℕ) → P what place at → at ≤ mostBytes) → Along file (Placed Field) P reader place at →
       Comes file reader place at outcome → Same (reads reader place (run (drop at front))) outcome
   unfolding reads
   alike inside (done {what} {place} {at} p) all-read = both-read (inside what place at p)
@@ -73,7 +75,7 @@ pub header-cut : (file : List ℕ) (n : ℕ) → mostBytes < n → headerOf (tak
 unfolding headerOf
 header-cut file n longer = told-alike (alike file n longer (λ _ _ _ (counts, (place, end)). omega (arith, end)) (header-along file) (goes-over file header 0 0))
   where
-    told-alike : {r s : Read Header} → Same file n longer r s → telling r ≡ telling s
+    told-alike : {r s : Read Counts} → Same file n longer r s → telling r ≡ telling s
     told-alike both-refused = refl
     told-alike (both-read h) = refl
 

@@ -1,22 +1,27 @@
 -- What a file that was read holds is within its limits.
 use Prim.Native.Nat.{ℕ, zero, suc, _+_, _≤_, _<_}
-use mathlib.Core.Path.{_≡_, sym, _∙_}
+use mathlib.Core.Path.{_≡_, sym, subst, _∙_}
 use mathlib.Core.List.{List, [], _∷_}
-use native.Mathlib.Nat.{not-suc-le-zero}
+use mathlib.Core.Logic.{inl, inr, ⊎-elim}
+use native.Mathlib.Nat.{le-trans, not-suc-le-zero}
 use native.Mathlib.Decide.{decLe}
 use native.Mathlib.Omega.{arith}
 use lib.ListN.{length, getD}
+use Rattle.fields.specs.Run.{Run}
+use Rattle.fields.specs.Readers.{read}
+use Rattle.fields.specs.Lists.{Each}
+use Rattle.fields.proofs.Along.{Ended, none-left, comes-to, at-end}
+use Rattle.records.specs.declared.counts.Counts.{Counts}
+use Rattle.records.specs.declared.plant.Plant.{Plant}
 use Rattle.records.specs.declared.segment.Segment.{Segment}
+use Rattle.records.specs.declared.line.Line.{Line}
 use Rattle.records.specs.Segments.{pipeline, intermediateStorage, store}
-use Rattle.records.specs.Run.{Run}
-use Rattle.records.specs.Fields.{read}
-use Rattle.records.specs.Periods.{Period, Header, periodFile}
-use Rattle.records.specs.Within.{Each, KindWithin, Within}
-use Rattle.records.proofs.Ranges.{at-least, at-most, next-after}
-use Rattle.records.proofs.Readers.{Ended, none-left, comes-to, at-end}
-use Rattle.records.proofs.Periods.{PeriodField, Stands, Holds, PeriodRead, period-along}
+use Rattle.records.specs.Periods.{Period, periodFile}
+use Rattle.records.specs.Within.{mostCounts, CountsWithin, PlantWithin, SegmentWithin, KindWithin, LineWithin, Within}
+use Rattle.records.proofs.FieldRanges.{at-least, at-most, next-after}
+use Rattle.records.proofs.PeriodAlong.{PeriodField, Placed, Holds, PeriodRead, period-along}
 
--- ---- the record at a place of a list, of which each has a property
+-- ---- the record at an index of a list, of which each has a property
 pub each-at :
     {A : Type 0} (P : ℕ → A → Type 0) (own : ℕ) (xs : List A) (i : ℕ) (d : A) (j : ℕ) → own + i ≡ j → i < length xs → Each P own xs → P j (getD xs i d)
 unfolding Each
@@ -32,31 +37,48 @@ each-on then own (one ∷ rest) each = (then own one (each .0), each-on then (su
 
 -- ---- a segment without a next one is a store
 pub kind-without-next :
-    (segments own : ℕ) (segment : Segment) → KindWithin segments own segment → segment .next ≡ 0 → segment .kind ≡ store
-kind-without-next segments own segment within none = by-kind (decLe (segment .kind) intermediateStorage)
+    (counts : Counts) (own : ℕ) (segment : Segment) → KindWithin counts own segment → segment .next ≡ 0 → segment .kind ≡ store
+kind-without-next counts own segment within none = by-kind (decLe (segment .kind) intermediateStorage)
   where
     by-kind : Dec (segment .kind ≤ intermediateStorage) → segment .kind ≡ store
     by-kind (yes p) =
         let from = at-least pipeline store (segment .kind) (within .kind) in
-        let next = sym (next-after segments own (segment .kind) (segment .next) from p) ∙ within .next in
-        absurd (omega (arith, at-least (suc own) segments (segment .next) next, none))
+        let next = sym (next-after counts own (segment .kind) (segment .next) from p) ∙ within .next in
+        absurd (omega (arith, at-least (suc own) (counts .segments) (segment .next) next, none))
     by-kind (no p) = omega (arith, at-most pipeline store (segment .kind) (within .kind))
 
+-- ---- within the counts of a period is within the largest
+module _ {counts : Counts} (within : CountsWithin counts) where
+  pub plant-within-most : (own : ℕ) (plant : Plant) → PlantWithin counts own plant → PlantWithin mostCounts own plant
+  plant-within-most own plant w =
+      record { exported = w .exported; some-first = w .some-first; first = le-trans (w .first) (within .most-segments); fraction = w .fraction }
+
+  pub segment-within-most : (own : ℕ) (segment : Segment) → SegmentWithin counts own segment → SegmentWithin mostCounts own segment
+  segment-within-most own segment w = record {
+    outflow = w .outflow;
+    next = ⊎-elim (λ none. inl none) (λ some. inr (some .0, le-trans (some .1) (within .most-segments))) (w .next);
+  }
+
+  pub line-within-most : (own : ℕ) (line : Line) → LineWithin counts own line → LineWithin mostCounts own line
+  line-within-most own line w = record {
+    owner-kind = w .owner-kind;
+    some-owner = w .some-owner;
+    plant = λ is. le-trans (w .plant is) (within .most-plants);
+    segment = λ is. le-trans (w .segment is) (within .most-segments);
+    quantity = w .quantity;
+    factor = w .factor;
+  }
+
 -- ---- what is held as announced is within the limits
-held-within : (h : Header) (what : Period) → Holds h what → Within what
+held-within : (h : Counts) (what : Period) → Holds h what → Within what
 held-within h what holds =
-    let p = holds .plant-count in
-    let s = holds .segment-count in
+    let is = sym (holds .counted) in
     record {
-      some-plants = rw p (holds .counts .some-plants);
-      most-plants = rw p (holds .counts .most-plants);
-      some-segments = rw s (holds .counts .some-segments);
-      most-segments = rw s (holds .counts .most-segments);
-      most-lines = rw (holds .line-count) (holds .counts .most-lines);
-      plants = rw s (holds .plants);
-      segments = rw s (each-on (λ own one both. both .0) 1 (what .segments) (holds .segments));
-      kinds = rw s (each-on (λ own one both. both .1) 1 (what .segments) (holds .segments));
-      lines = rw (p, s) (each-on (λ own one both. both .0) 1 (what .lines) (holds .lines));
+      counts = subst CountsWithin is (holds .counts);
+      plants = subst (λ (c : Counts). Each (PlantWithin c) 1 (what .plants)) is (holds .plants);
+      segments = subst (λ (c : Counts). Each (SegmentWithin c) 1 (what .segments)) is (each-on (λ own one both. both .0) 1 (what .segments) (holds .segments));
+      kinds = subst (λ (c : Counts). Each (KindWithin c) 1 (what .segments)) is (each-on (λ own one both. both .1) 1 (what .segments) (holds .segments));
+      lines = subst (λ (c : Counts). Each (LineWithin c) 1 (what .lines)) is (each-on (λ own one both. both .0) 1 (what .lines) (holds .lines));
       classes = each-on (λ own one both. both .1) 1 (what .lines) (holds .lines);
     }
 
@@ -65,5 +87,5 @@ pub read-within : (file : List ℕ) (period : Period) (place : ℕ) (rest : Run)
 unfolding periodFile
 read-within file held place rest e = within (rw e at (at-end (comes-to (period-along file))))
   where
-    within : {what : Period} {end : ℕ} {left : Run} → Ended file (Stands PeriodField) PeriodRead (read what end left) → Within what
+    within : {what : Period} {end : ℕ} {left : Run} → Ended file (Placed PeriodField) PeriodRead (read what end left) → Within what
     within {what} (none-left ((h, holds), last)) = held-within h what holds

@@ -1,17 +1,45 @@
--- What the header of a file tells of the records behind it.
-use Prim.Native.Nat.{ℕ}
+-- "Header: edition (1), plants P (1 to 16), segments S (1 to 32), lines L (0 to 512)."
+use Prim.Native.Nat.{ℕ, _+_}
 use mathlib.Core.List.{List}
+use lib.Dec.{eqb}
+use Rattle.fields.specs.declared.reason.Reason.the-variants.{WrongEdition, WrongCount}
+use Rattle.fields.specs.Run.{run}
+use Rattle.fields.specs.Readers.{Reader, return, field, _>>=_, Read, read, refused, reads}
+use Rattle.records.specs.declared.counts.Counts.{Counts}
 use Rattle.records.specs.declared.header.Header.{Header}
 use Rattle.records.specs.declared.header.Header.the-variants.{Tells, TellsNothing}
-use Rattle.records.specs.Run.{run}
-use Rattle.records.specs.Fields.{Read, read, refused, reads}
-use Rattle.records.specs.Periods as Periods
+use Rattle.records.specs.Plants.{plantsAllowed}
+use Rattle.records.specs.Segments.{segmentsAllowed}
+use Rattle.records.specs.Lines.{linesAllowed}
 
--- The counts that were read; a header that is refused tells nothing.
-abbrev pub telling : Read Periods.Header → Header
-telling (read counts place rest) = Tells (counts .plants) (counts .segments) (counts .lines)
-telling (refused refusal place) = TellsNothing
+abbrev pub edition : ℕ
+edition = 1
+
+-- P, S and L as one value.
+abbrev pub announced : (plants segments lines : ℕ) → Counts
+announced plants segments lines = record { plants = plants; segments = segments; lines = lines }
+
+-- The header, number by number.
+unfoldable pub header : Reader Counts
+header = do
+  _ ← field WrongEdition (eqb edition)
+  plants ← field WrongCount plantsAllowed
+  segments ← field WrongCount segmentsAllowed
+  lines ← field WrongCount linesAllowed
+  return (announced plants segments lines)
+
+-- Its numbers, and the most bytes that they take, field by field.
+abbrev pub headerFields : ℕ
+headerFields = 4
+
+abbrev pub headerBytes : ℕ
+headerBytes = 1 + 1 + 1 + 2
+
+-- What it tells of the records behind it: the counts that were read; a header that is refused tells nothing.
+abbrev pub telling : Read Counts → Header
+telling (read counts place rest) = Tells counts
+telling (refused number place) = TellsNothing
 
 -- The header of a file, whatever stands behind it.
 unfoldable pub headerOf : List ℕ → Header
-headerOf file = telling (reads Periods.header 0 (run file))
+headerOf file = telling (reads header 0 (run file))

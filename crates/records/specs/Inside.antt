@@ -1,9 +1,19 @@
--- What the private functions of reading promise to their one caller. Nothing here is needed to read a public promise.
-use Prim.Native.Nat.{ℕ, suc, _+_, _*_, _≤_}
+-- What the private functions of reading promise to their callers. Nothing here is needed to read a public promise.
+use Prim.Native.Nat.{ℕ, zero, suc, _+_, _*_}
 use mathlib.Core.Path.{_≡_}
+use mathlib.Core.Bool.{Bool}
 use mathlib.Core.List.{List}
-use lib.ListN.{length, take, drop, replicate}
-use Rattle.records.specs.declared.answer.Answer.{Answer}
+use lib.ListN.{length, replicate}
+use Rattle.fields.specs.declared.answer.Answer.the-variants.{Refused}
+use Rattle.fields.specs.declared.answer.Refusal.{Refusal}
+use Rattle.fields.specs.declared.reason.Reason.{Reason}
+use Rattle.fields.specs.declared.reason.Reason.the-variants.{WrongEdition, WrongCount}
+use Rattle.fields.specs.declared.spot.Spot.{Spot}
+use Rattle.fields.specs.Readers.{Reader, each, Read, onward, allowsNext}
+use Rattle.fields.specs.Spots.{readsAt}
+use Rattle.fields.specs.Lists.{filled}
+use Rattle.fields.specs.Stages.{readTo, refusedBy, Staged}
+use Rattle.records.specs.declared.counts.Counts.{Counts}
 use Rattle.records.specs.declared.reading.Reading.{Reading}
 use Rattle.records.specs.declared.reading.header.ReadHeader.{ReadHeader}
 use Rattle.records.specs.declared.reading.header.ReadHeader.the-variants as ReadHeader
@@ -22,80 +32,69 @@ use Rattle.records.specs.declared.line.Line.{Line}
 use Rattle.records.specs.Plants.{mostPlants, plantFields, noPlant}
 use Rattle.records.specs.Segments.{mostSegments, segmentFields, noSegment}
 use Rattle.records.specs.Lines.{mostLines, lineFields, noLine}
-use Rattle.records.specs.Run.{Run, run}
-use Rattle.records.specs.Fields.{each, Read, read, refused, reads}
-use Rattle.records.specs.Periods as Periods
-use Rattle.records.specs.Answers.{Verdict, accepts, refuses, said}
-use Rattle.records.specs.Held.{filled}
+use Rattle.records.specs.Headers.{announced, header, headerFields}
+use Rattle.records.specs.Periods.{plant, segment, line}
+use Rattle.records.specs.Within.{CountsWithin}
 
--- A refusal with the answer's number and place; nothing is refused by accepting it.
-abbrev pub Refuses : {A : Type 0} → Verdict → Read A → Type 0
-Refuses accepts outcome = ⊥
-Refuses (refuses number place) outcome = outcome ≡ refused number place
+-- ---- the test of a field that does not hang on the numbers before it, by its index
+abbrev pub Allows : {A : Type 0} → Reader A → (field value : ℕ) → Bool → Type 0
+Allows reader field value answer = (before : List ℕ) → length before ≡ field → answer ≡ allowsNext (onward reader before) value
 
--- The header of these counts.
-abbrev pub announced : (plants segments lines : ℕ) → Periods.Header
-announced plants segments lines = record { plants = plants; segments = segments; lines = lines }
+abbrev pub headerAllows : (field value : ℕ) → Bool → Type 0
+headerAllows = Allows header
 
--- What reading the header comes to, by the code's answer: its counts, each within its limit, or a refusal.
-abbrev pub headerRead : List ℕ → ReadHeader → Read Periods.Header → Type 0
-headerRead file (ReadHeader.Whole plants segments lines next) outcome =
-    (outcome ≡ read (announced plants segments lines) Periods.headerNumbers (run (drop next file)))
-    × (plants ≤ mostPlants)
-    × (segments ≤ mostSegments)
-    × (lines ≤ mostLines)
-headerRead file (ReadHeader.Refused answer) outcome = Refuses (said answer) outcome
+abbrev pub plantAllows : Counts → (field value : ℕ) → Bool → Type 0
+plantAllows counts = Allows (plant counts)
 
--- What reading a record that starts at a place comes to: the record, the place after it and the run from there; or a refusal.
-abbrev pub plantRead : List ℕ → ℕ → ReadPlant → Read Plant → Type 0
-plantRead file place (ReadPlant.Whole plant next) outcome = outcome ≡ read plant (suc (suc (suc place))) (run (drop next file))
-plantRead file place (ReadPlant.Refused answer) outcome = Refuses (said answer) outcome
+-- the reason of each field of the header
+abbrev pub headerReason : ℕ → Reason
+headerReason zero = WrongEdition
+headerReason (suc field) = WrongCount
 
-abbrev pub segmentRead : List ℕ → ℕ → ReadSegment → Read Segment → Type 0
-segmentRead file place (ReadSegment.Whole segment next) outcome = outcome ≡ read segment (suc (suc (suc place))) (run (drop next file))
-segmentRead file place (ReadSegment.Refused answer) outcome = Refuses (said answer) outcome
+-- ---- what reading comes to, by the code's answer: what was read, up to a spot; or a refusal
+abbrev pub headerRead : List ℕ → ReadHeader → Read Counts → Type 0
+headerRead file (ReadHeader.Whole counts next) outcome =
+    (outcome ≡ readTo file counts next) × CountsWithin counts × (next .place ≡ headerFields)
+headerRead file (ReadHeader.Refused refusal) outcome = outcome ≡ refusedBy refusal
 
-abbrev pub lineRead : List ℕ → ℕ → ReadLine → Read Line → Type 0
-lineRead file place (ReadLine.Whole line next) outcome = outcome ≡ read line (suc (suc (suc (suc (suc place))))) (run (drop next file))
-lineRead file place (ReadLine.Refused answer) outcome = Refuses (said answer) outcome
+-- a record that starts at a spot
+abbrev pub plantRead : List ℕ → Spot → ReadPlant → Read Plant → Type 0
+plantRead file start (ReadPlant.Whole plant next) outcome = (outcome ≡ readTo file plant next) × (next .place ≡ start .place + plantFields)
+plantRead file start (ReadPlant.Refused refusal) outcome = outcome ≡ refusedBy refusal
 
--- ---- a stage: so many records of one kind, read into an array
-module _ {A : Type 0} where
-  -- what reading came to, by a stage's verdict and the records that it has read
-  abbrev pub staged : Verdict → List A → ℕ → Run → Read (List A)
-  staged accepts records place rest = read records place rest
-  staged (refuses number atPlace) records place rest = refused number atPlace
+abbrev pub segmentRead : List ℕ → Spot → ReadSegment → Read Segment → Type 0
+segmentRead file start (ReadSegment.Whole segment next) outcome = (outcome ≡ readTo file segment next) × (next .place ≡ start .place + segmentFields)
+segmentRead file start (ReadSegment.Refused refusal) outcome = outcome ≡ refusedBy refusal
 
-  -- what reading so many records comes to, by the stage's verdict and its array; an accepted stage's array holds nothing behind them
-  pub record Staged (none : A) (room count : ℕ) (outcome : Read (List A)) (verdict : Verdict) (array : List A) (place : ℕ) (rest : Run) : Type 0 where
-    pub comes-to : outcome ≡ staged verdict (take count array) place rest
-    pub counted : verdict ≡ accepts → length (take count array) ≡ count
-    pub filled-up : verdict ≡ accepts → array ≡ filled none room (take count array)
+abbrev pub lineRead : List ℕ → Spot → ReadLine → Read Line → Type 0
+lineRead file start (ReadLine.Whole line next) outcome = (outcome ≡ readTo file line next) × (next .place ≡ start .place + lineFields)
+lineRead file start (ReadLine.Refused refusal) outcome = outcome ≡ refusedBy refusal
 
--- what reading the records of each kind comes to, the first of which starts at a byte, with what the stage hands on
-abbrev pub plantsRead : List ℕ → (start count segments : ℕ) → Plants → Type 0
-plantsRead file start count segments r =
-    Staged noPlant mostPlants count (reads (each (λ (own : ℕ). Periods.plant segments) 1 count) Periods.headerNumbers (run (drop start file)))
-    (said (r .answer)) (r .plants) (Periods.headerNumbers + plantFields * count) (run (drop (r .next) file))
+-- the records of each kind, of which the first starts at a spot
+abbrev pub plantsRead : List ℕ → Spot → Counts → Plants → Type 0
+plantsRead file start counts r =
+    Staged file (filled noPlant mostPlants) (counts .plants) (start .place + plantFields * counts .plants)
+    (readsAt (each (λ (own : ℕ). plant counts) 1 (counts .plants)) file start)
+    (record { answer = r .answer; array = r .plants; next = r .next })
 
-abbrev pub segmentsRead : List ℕ → (start place count : ℕ) → Segments → Type 0
-segmentsRead file start place count r =
-    Staged noSegment mostSegments count (reads (each (Periods.segment count) 1 count) place (run (drop start file)))
-    (said (r .answer)) (r .segments) (place + segmentFields * count) (run (drop (r .next) file))
+abbrev pub segmentsRead : List ℕ → Spot → Counts → Segments → Type 0
+segmentsRead file start counts r =
+    Staged file (filled noSegment mostSegments) (counts .segments) (start .place + segmentFields * counts .segments)
+    (readsAt (each (segment counts) 1 (counts .segments)) file start)
+    (record { answer = r .answer; array = r .segments; next = r .next })
 
-abbrev pub linesRead : List ℕ → (start place count plants segments : ℕ) → Lines → Type 0
-linesRead file start place count plants segments r =
-    Staged noLine mostLines count (reads (each (λ (own : ℕ). Periods.line plants segments) 1 count) place (run (drop start file)))
-    (said (r .answer)) (r .lines) (place + lineFields * count) (run (drop (r .next) file))
+abbrev pub linesRead : List ℕ → Spot → Counts → Lines → Type 0
+linesRead file start counts r =
+    Staged file (filled noLine mostLines) (counts .lines) (start .place + lineFields * counts .lines)
+    (readsAt (each (λ (own : ℕ). line counts) 1 (counts .lines)) file start)
+    (record { answer = r .answer; array = r .lines; next = r .next })
 
 -- ---- the reading of a refused file
-abbrev pub nothing : Answer → Reading
-nothing answer = record {
-  answer = answer;
-  «plant_count» = 0;
+abbrev pub noRecords : Refusal → Reading
+noRecords refusal = record {
+  answer = Refused refusal;
+  counts = announced 0 0 0;
   plants = replicate mostPlants noPlant;
-  «segment_count» = 0;
   segments = replicate mostSegments noSegment;
-  «line_count» = 0;
   lines = replicate mostLines noLine;
 }

@@ -5,7 +5,7 @@ use Rattle.records.specs.Plants.{mostPlants, millionths}
 use Rattle.records.specs.Segments.{mostSegments, store}
 use Rattle.records.specs.Classes.{classes}
 use Rattle.records.specs.Lines.{mostLines, largestFactor}
-use Rattle.records.specs.Periods.{mostNumbers}
+use Rattle.records.specs.Periods.{mostNumbers, mostBytes}
 
 unfoldable pub limits : Limits
 limits = record {
@@ -17,4 +17,5 @@ limits = record {
   class = length classes;
   factor = largestFactor;
   numbers = mostNumbers;
+  bytes = mostBytes;
 }

@@ -1,9 +1,10 @@
 -- "L line records: owner kind ..; owner number ..; class ..; quantity; factor in grams CO2e per unit".
-use Prim.Native.Nat.{ℕ}
+use Prim.Native.Nat.{ℕ, _+_}
 use mathlib.Core.Bool.{Bool, _&&_, _||_}
 use lib.Dec.{eqb}
+use Rattle.fields.specs.Ranges.{upTo, within}
+use Rattle.records.specs.declared.counts.Counts.{Counts}
 use Rattle.records.specs.declared.line.Line.{Line}
-use Rattle.records.specs.Ranges.{upTo, within}
 use Rattle.records.specs.Classes.{plantOwner, segmentOwner}
 
 -- "lines L (0 to 512)"
@@ -22,9 +23,9 @@ abbrev pub ownerKindAllowed : ℕ → Bool
 ownerKindAllowed = upTo segmentOwner
 
 -- "owner number (1 to P for a plant, 1 to S for a segment)"
-abbrev pub ownerAllowed : ℕ → ℕ → ℕ → ℕ → Bool
-ownerAllowed plants segments ownerKind owner =
-    eqb ownerKind plantOwner && within 1 plants owner || eqb ownerKind segmentOwner && within 1 segments owner
+abbrev pub ownerAllowed : Counts → (ownerKind owner : ℕ) → Bool
+ownerAllowed counts ownerKind owner =
+    eqb ownerKind plantOwner && within 1 (counts .plants) owner || eqb ownerKind segmentOwner && within 1 (counts .segments) owner
 
 abbrev pub factorAllowed : ℕ → Bool
 factorAllowed = upTo largestFactor
@@ -38,6 +39,9 @@ lineOf ownerKind owner class quantity factor =
 abbrev pub noLine : Line
 noLine = lineOf 0 0 0 0 0
 
--- The numbers of a record.
+-- The numbers of a record, and the most bytes that they take, field by field.
 abbrev pub lineFields : ℕ
 lineFields = 5
+
+abbrev pub lineBytes : ℕ
+lineBytes = 1 + 1 + 1 + 5 + 5

@@ -1,8 +1,9 @@
 -- "P plant records: exported kg; first segment (1 to S); origin fraction in millionths (0 to 1,000,000)."
-use Prim.Native.Nat.{ℕ}
+use Prim.Native.Nat.{ℕ, _+_}
 use mathlib.Core.Bool.{Bool}
+use Rattle.fields.specs.Ranges.{within, upTo}
+use Rattle.records.specs.declared.counts.Counts.{Counts}
 use Rattle.records.specs.declared.plant.Plant.{Plant}
-use Rattle.records.specs.Ranges.{within, upTo}
 
 -- "plants P (1 to 16)"
 abbrev pub mostPlants : ℕ
@@ -16,8 +17,8 @@ abbrev pub millionths : ℕ
 millionths = 1_000_000
 
 -- "first segment (1 to S)"
-abbrev pub firstAllowed : ℕ → ℕ → Bool
-firstAllowed segments = within 1 segments
+abbrev pub firstAllowed : Counts → ℕ → Bool
+firstAllowed counts = within 1 (counts .segments)
 
 -- "origin fraction in millionths (0 to 1,000,000)"
 abbrev pub fractionAllowed : ℕ → Bool
@@ -31,6 +32,9 @@ plantOf exported first fraction = record { exported = exported; first = first; f
 abbrev pub noPlant : Plant
 noPlant = plantOf 0 0 0
 
--- The numbers of a record.
+-- The numbers of a record, and the most bytes that they take, field by field.
 abbrev pub plantFields : ℕ
 plantFields = 3
+
+abbrev pub plantBytes : ℕ
+plantBytes = 5 + 1 + 3

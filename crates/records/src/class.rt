@@ -1,7 +1,8 @@
-// Classes of emission lines: "This table is fixed data of the program."
+// Classes of emission lines: a table of fixed data, looked up for every line.
 ghost use mathlib.Core.Path.{_≡_};
 ghost use Rattle.records.specs.Classes.{classAllowed};
-use crate::line::Line;
+use crate::plant::Plant;
+use crate::segment::Segment;
 
 // A row of the table: a class with its equations in the annex and the owners that it allows.
 pub struct Class {
@@ -29,8 +30,8 @@ impl Class {
             Class::FIRST..=Class::LAST => {
                 let class = CLASSES[(code - Class::FIRST) as usize];
                 match owner_kind {
-                    Line::PLANT => class.plant,
-                    Line::SEGMENT => class.segment,
+                    Plant::OWNER_KIND => class.plant,
+                    Segment::OWNER_KIND => class.segment,
                     _ => false,
                 }
             }

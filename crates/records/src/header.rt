@@ -1,17 +1,18 @@
-// The header: "edition (1), plants P (1 to 16), segments S (1 to 32), lines L (0 to 512)".
+// The header: edition, and how many plants, segments and lines follow.
 ghost use mathlib.Core.Path.{_≡_};
-ghost use Rattle.records.specs.Headers.{headerOf};
-use crate::reading::header::ReadHeader;
-use crate::reading::header::read_header;
+ghost use Prim.Native.Nat.{_<_};
+ghost use Rattle.records.specs.Headers.{headerFields};
+ghost use Rattle.records.specs.Inside.{headerAllows, headerReason};
+use crate::counts::Counts;
+use crate::line::Line;
+use crate::plant::Plant;
+use crate::segment::Segment;
+use fields::Reason;
 
 // What the header of a file tells of the records behind it.
 pub enum Header {
     // How many there are of each kind.
-    Tells {
-        plants: u64,
-        segments: u64,
-        lines: u64,
-    },
+    Tells(Counts),
     // Nothing: one of its numbers is not there, or not allowed.
     TellsNothing,
 }
@@ -19,25 +20,32 @@ pub enum Header {
 impl Header {
     // The edition that is read here.
     pub const EDITION: u64 = 1;
-    // The numbers of the header.
-    pub const FIELDS: u64 = 4;
+    // The numbers of the header, and the most bytes that they take, field by field.
+    pub const FIELDS: usize = 4;
 
-    // The header of a file, whatever stands behind it.
-    pub fn of(file: &[u8]) -> Header
-        ensures { λ r. ⌜ r ≡ headerOf (now (file .entry)) ⌝ }
+    pub const BYTES: usize = 1 + 1 + 1 + 2;
+
+    // Whether the field at an index allows a value, whatever stands before it.
+    pub(crate) fn allows(field: usize, value: u64) -> bool
+        ensures { λ r. ⌜ headerAllows field value r ⌝ }
     {
-        match read_header(file) {
-            ReadHeader::Refused { answer: _ } => Header::TellsNothing,
-            ReadHeader::Whole {
-                plants,
-                segments,
-                lines,
-                next: _,
-            } => Header::Tells {
-                plants,
-                segments,
-                lines,
-            },
+        match field {
+            0 => value == Header::EDITION,
+            1 => Plant::count_allowed(value),
+            2 => Segment::count_allowed(value),
+            3 => Line::count_allowed(value),
+            _ => true,
+        }
+    }
+
+    // Why a value is refused that the field does not allow.
+    pub(crate) fn reason(field: usize) -> Reason
+        requires { ⌜ field < headerFields ⌝ }
+        ensures { λ r. ⌜ r ≡ headerReason field ⌝ }
+    {
+        match field {
+            0 => Reason::WrongEdition,
+            _ => Reason::WrongCount,
         }
     }
 }

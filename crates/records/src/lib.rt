@@ -1,9 +1,10 @@
 // The period file: its records with their limits, and how it is read (01, "The period file").
 //
-// Numbers are read through the number layer alone. What a file has to hold, and in which order it is
-// tested, is said by the definitions in specs/; every promise here is an equation with one of them.
-pub mod answer;
+// Numbers are taken through the layer for fields alone; here stand the fields and their tests. What a
+// file has to hold, and in which order it is tested, is said by the definitions in specs/; every promise
+// here is an equation with one of them.
 pub mod class;
+pub mod counts;
 pub mod header;
 pub mod limits;
 pub mod line;
@@ -11,12 +12,13 @@ pub mod plant;
 pub mod reading;
 pub mod segment;
 
-pub use crate::answer::Answer;
 pub use crate::class::Class;
+pub use crate::counts::Counts;
 pub use crate::header::Header;
 pub use crate::limits::Limits;
 pub use crate::line::Line;
 pub use crate::plant::Plant;
 pub use crate::reading::Reading;
+pub use crate::reading::header::header_of;
 pub use crate::reading::read;
 pub use crate::segment::Segment;

@@ -17,11 +17,22 @@ pub struct Limits {
     pub kind: u64,
     pub class: u64,
     pub factor: u64,
-    // The most numbers of a file.
+    // The most numbers of a file, and its most bytes.
     pub numbers: u64,
+    pub bytes: usize,
 }
 
 impl Limits {
+    pub const NUMBERS: usize = Header::FIELDS
+        + Plant::FIELDS * Plant::MOST
+        + Segment::FIELDS * Segment::MOST
+        + Line::FIELDS * Line::MOST;
+
+    pub const BYTES: usize = Header::BYTES
+        + Plant::BYTES * Plant::MOST
+        + Segment::BYTES * Segment::MOST
+        + Line::BYTES * Line::MOST;
+
     // Every limit as the records state it. The promise ties them to those of the definitions.
     pub fn new() -> Limits
         ensures { λ r. ⌜ r ≡ limits ⌝ }
@@ -34,10 +45,8 @@ impl Limits {
             kind: Segment::STORE,
             class: Class::LAST,
             factor: Line::LARGEST_FACTOR,
-            numbers: Header::FIELDS
-                + Plant::FIELDS * Plant::MOST as u64
-                + Segment::FIELDS * Segment::MOST as u64
-                + Line::FIELDS * Line::MOST as u64,
+            numbers: Limits::NUMBERS as u64,
+            bytes: Limits::BYTES,
         }
     }
 }

@@ -1,7 +1,10 @@
-// Emission lines: "owner kind; owner number; class; quantity; factor in grams CO2e per unit".
+// Emission lines: owner kind, owner number, class, quantity, factor in grams CO2e per unit.
 ghost use mathlib.Core.Path.{_≡_};
 ghost use Prim.Native.Nat.{_≤_};
+ghost use lib.ListN.{length, take};
 ghost use Rattle.number.specs.Groups.{largest};
+ghost use Rattle.fields.specs.Readers.{allowsNext, onward};
+ghost use Rattle.records.specs.Periods.{line};
 ghost use Rattle.records.specs.Segments.{mostSegments};
 ghost use Rattle.records.specs.Classes.{classes, segmentOwner};
 ghost use Rattle.records.specs.Lines.{
@@ -12,7 +15,10 @@ ghost use Rattle.records.specs.Lines.{
   ownerAllowed,
   ownerKindAllowed,
 };
-ghost use lib.ListN.{length};
+use crate::class::Class;
+use crate::counts::Counts;
+use crate::plant::Plant;
+use crate::segment::Segment;
 
 pub struct Line {
     // Whether a plant or a segment owns it, and which.
@@ -27,12 +33,10 @@ pub struct Line {
 impl Line {
     // The most lines that a period has; it may have none.
     pub const MOST: usize = 512;
-    // The numbers of its record in the file.
-    pub const FIELDS: u64 = 5;
-    // The kinds of owner.
-    pub const PLANT: u64 = 0;
+    // The numbers of its record in the file, and the most bytes that they take, field by field.
+    pub const FIELDS: usize = 5;
 
-    pub const SEGMENT: u64 = 1;
+    pub const BYTES: usize = 1 + 1 + 1 + 5 + 5;
     // The largest factor, in grams CO2e per unit.
     pub const LARGEST_FACTOR: u64 = 1_000_000_000;
 
@@ -43,26 +47,44 @@ impl Line {
         count <= Line::MOST as u64
     }
 
+    // Whether the field at an index of a line's record allows a value, by the numbers before it.
+    pub(crate) fn allows(
+        field: usize,
+        value: u64,
+        earlier: [u64; Line::FIELDS],
+        counts: Counts,
+    ) -> bool
+        ensures { λ r. ⌜ r ≡ allowsNext (onward (line counts) (take field earlier)) value ⌝ }
+    {
+        match field {
+            0 => Line::owner_kind_allowed(value),
+            1 => Line::owner_allowed(value, earlier[0], counts),
+            2 => Class::allowed(value, earlier[0]),
+            4 => Line::factor_allowed(value),
+            _ => true,
+        }
+    }
+
     // Whether there is such a kind of owner.
-    pub(crate) fn owner_kind_allowed(owner_kind: u64) -> bool
+    fn owner_kind_allowed(owner_kind: u64) -> bool
         ensures { λ r. ⌜ r ≡ ownerKindAllowed «owner_kind» ⌝ }
     {
-        owner_kind <= Line::SEGMENT
+        owner_kind <= Segment::OWNER_KIND
     }
 
     // Whether there is such a plant or segment.
-    pub(crate) fn owner_allowed(owner: u64, owner_kind: u64, plants: u64, segments: u64) -> bool
-        ensures { λ r. ⌜ r ≡ ownerAllowed plants segments «owner_kind» owner ⌝ }
+    fn owner_allowed(owner: u64, owner_kind: u64, counts: Counts) -> bool
+        ensures { λ r. ⌜ r ≡ ownerAllowed counts «owner_kind» owner ⌝ }
     {
         match owner_kind {
-            Line::PLANT => 1 <= owner && owner <= plants,
-            Line::SEGMENT => 1 <= owner && owner <= segments,
+            Plant::OWNER_KIND => 1 <= owner && owner <= counts.plants,
+            Segment::OWNER_KIND => 1 <= owner && owner <= counts.segments,
             _ => false,
         }
     }
 
     // Whether a line may have this factor.
-    pub(crate) fn factor_allowed(factor: u64) -> bool
+    fn factor_allowed(factor: u64) -> bool
         ensures { λ r. ⌜ r ≡ factorAllowed factor ⌝ }
     {
         factor <= Line::LARGEST_FACTOR

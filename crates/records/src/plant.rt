@@ -1,9 +1,11 @@
-// Plants: "exported kg; first segment (1 to S); origin fraction in millionths (0 to 1,000,000)".
+// Plants: exported kg, first segment, origin fraction in millionths.
 ghost use mathlib.Core.Path.{_≡_};
 ghost use Prim.Native.Nat.{_≤_};
 ghost use Rattle.number.specs.Groups.{largest};
 ghost use Rattle.records.specs.Plants.{firstAllowed, fractionAllowed, millionths, plantOf, plantsAllowed};
 ghost use Rattle.records.specs.Segments.{mostSegments};
+ghost use Rattle.records.specs.Inside.{plantAllows};
+use crate::counts::Counts;
 
 pub struct Plant {
     // What it exported, in kg.
@@ -19,8 +21,12 @@ impl Plant {
     pub const MOST: usize = 16;
 
     pub const FEWEST: u64 = 1;
-    // The numbers of its record in the file.
-    pub const FIELDS: u64 = 3;
+    // The numbers of its record in the file, and the most bytes that they take, field by field.
+    pub const FIELDS: usize = 3;
+
+    pub const BYTES: usize = 5 + 1 + 3;
+    // What tells in a line's record that a plant owns it.
+    pub const OWNER_KIND: u64 = 0;
     // The largest origin fraction: the whole.
     pub const LARGEST_FRACTION: u64 = 1_000_000;
 
@@ -31,15 +37,26 @@ impl Plant {
         Plant::FEWEST <= count && count <= Plant::MOST as u64
     }
 
-    // Whether a route may start at this segment.
-    pub(crate) fn first_allowed(first: u64, segments: u64) -> bool
-        ensures { λ r. ⌜ r ≡ firstAllowed segments first ⌝ }
+    // Whether the field at an index of a plant's record allows a value, whatever stands before it.
+    pub(crate) fn allows(field: usize, value: u64, counts: Counts) -> bool
+        ensures { λ r. ⌜ plantAllows counts field value r ⌝ }
     {
-        1 <= first && first <= segments
+        match field {
+            1 => Plant::first_allowed(value, counts),
+            2 => Plant::fraction_allowed(value),
+            _ => true,
+        }
+    }
+
+    // Whether a route may start at this segment.
+    fn first_allowed(first: u64, counts: Counts) -> bool
+        ensures { λ r. ⌜ r ≡ firstAllowed counts first ⌝ }
+    {
+        1 <= first && first <= counts.segments
     }
 
     // Whether a plant may have this origin fraction.
-    pub(crate) fn fraction_allowed(fraction: u64) -> bool
+    fn fraction_allowed(fraction: u64) -> bool
         ensures { λ r. ⌜ r ≡ fractionAllowed fraction ⌝ }
     {
         fraction <= Plant::LARGEST_FRACTION

@@ -1,7 +1,10 @@
-// Segments: "kind; metered outflow in kg; next segment".
+// Segments: kind, metered outflow in kg, next segment.
 ghost use mathlib.Core.Path.{_≡_};
 ghost use Prim.Native.Nat.{_≤_};
+ghost use lib.ListN.{take};
 ghost use Rattle.number.specs.Groups.{largest};
+ghost use Rattle.fields.specs.Readers.{allowsNext, onward};
+ghost use Rattle.records.specs.Periods.{segment};
 ghost use Rattle.records.specs.Segments.{
   kindAllowed,
   mostSegments,
@@ -10,6 +13,7 @@ ghost use Rattle.records.specs.Segments.{
   segmentsAllowed,
   store,
 };
+use crate::counts::Counts;
 
 pub struct Segment {
     // Its kind: a means of transport, an intermediate storage, or the geological store.
@@ -25,8 +29,12 @@ impl Segment {
     pub const MOST: usize = 32;
 
     pub const FEWEST: u64 = 1;
-    // The numbers of its record in the file.
-    pub const FIELDS: u64 = 3;
+    // The numbers of its record in the file, and the most bytes that they take, field by field.
+    pub const FIELDS: usize = 3;
+
+    pub const BYTES: usize = 1 + 5 + 1;
+    // What tells in a line's record that a segment owns it.
+    pub const OWNER_KIND: u64 = 1;
     // The kinds that name a next segment: pipeline, road, rail, water, intermediate storage.
     pub const PIPELINE: u64 = 1;
 
@@ -41,8 +49,26 @@ impl Segment {
         Segment::FEWEST <= count && count <= Segment::MOST as u64
     }
 
+    // Whether the field at an index allows a value, in the record of the segment with its own number, by
+    // the numbers before it.
+    pub(crate) fn allows(
+        field: usize,
+        value: u64,
+        earlier: [u64; Segment::FIELDS],
+        own: u64,
+        counts: Counts,
+    ) -> bool
+        ensures { λ r. ⌜ r ≡ allowsNext (onward (segment counts own) (take field earlier)) value ⌝ }
+    {
+        match field {
+            0 => Segment::kind_allowed(value),
+            2 => Segment::next_allowed(value, earlier[0], own, counts),
+            _ => true,
+        }
+    }
+
     // Whether there is such a kind of segment.
-    pub(crate) fn kind_allowed(kind: u64) -> bool
+    fn kind_allowed(kind: u64) -> bool
         ensures { λ r. ⌜ r ≡ kindAllowed kind ⌝ }
     {
         match kind {
@@ -52,11 +78,13 @@ impl Segment {
     }
 
     // Whether a segment of this kind, with its own number, may name this next segment.
-    pub(crate) fn next_allowed(next: u64, kind: u64, own: u64, segments: u64) -> bool
-        ensures { λ r. ⌜ r ≡ nextAllowed segments own kind next ⌝ }
+    fn next_allowed(next: u64, kind: u64, own: u64, counts: Counts) -> bool
+        ensures { λ r. ⌜ r ≡ nextAllowed counts own kind next ⌝ }
     {
         match kind {
-            Segment::PIPELINE..=Segment::INTERMEDIATE_STORAGE => own < next && next <= segments,
+            Segment::PIPELINE..=Segment::INTERMEDIATE_STORAGE => {
+                own < next && next <= counts.segments
+            }
             Segment::STORE => next == 0,
             _ => false,
         }

@@ -1,2 +1,2 @@
 -- The numbers that the call wrote lie within its tables.
-mod Within
+mod NumbersThere

@@ -1,11 +1,12 @@
 // The answer to a period file, on standard output: its rows, or the line of a refused file (01, "One
 // whole period"). Each function answers whether all that it prints could be written.
 ghost use Prim.Native.Nat.{_<_};
+use fields::Answer;
+use fields::Refusal;
 use libc::STDOUT_FILENO;
 use period::PLANT_NUMBERS;
 use period::SEGMENT_NUMBERS;
 use period::quantify;
-use records::Answer;
 use records::Plant;
 use records::Segment;
 
@@ -16,9 +17,9 @@ pub(crate) fn print_answer(file: &[u8]) -> bool {
     let mut segment_table = [0u64; SEGMENT_NUMBERS * Segment::MOST];
     let quantified = quantify(file, &mut plant_table, &mut segment_table);
     let answer = quantified.answer;
-    let Answer::Accepted = answer else {
-        return print_refusal(answer);
-    };
+    if let Answer::Refused(refusal) = answer {
+        return print_refusal(refusal);
+    }
     let plant_numbers = quantified.plant_numbers;
     let segment_numbers = quantified.segment_numbers;
     print_rows(b"P", &plant_table[..plant_numbers], PLANT_NUMBERS)
@@ -26,9 +27,10 @@ pub(crate) fn print_answer(file: &[u8]) -> bool {
 }
 
 // "A refused file prints one line: R, number, place"
-fn print_refusal(answer: Answer) -> bool {
-    let place = [answer.place()];
-    print_row(b"R", answer.refusal() as u64, &place)
+fn print_refusal(refusal: Refusal) -> bool {
+    let reason = refusal.reason;
+    let place = [refusal.place];
+    print_row(b"R", reason.number() as u64, &place)
 }
 
 // The rows of a table, with so many fields each, of records that are numbered from 1.

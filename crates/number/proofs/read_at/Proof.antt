@@ -1,4 +1,4 @@
--- `number::read_at` meets its contract: what was gathered from the place on decides the case. Assumes nothing.
+-- `number::read_at` meets its contract: what was gathered from the byte on decides the case. Assumes nothing.
 use Prim.Native.Nat.{_-_}
 use mathlib.Core.Path.{_≡_, sym, ap, _∙_}
 use native.Mathlib.Omega.{arith}
@@ -11,13 +11,13 @@ use Rattle.number.specs.declared.groups.Ending.the-variants.{Last, Cut, 
 use Rattle.number.specs.Groups.{gather, mostGroups}
 use Rattle.number.specs.Groups.Gathering.{whole, cut, long}
 use Rattle.number.specs.Inside.{gathered, counted}
-use Rattle.number.proofs.Standing.{stands, are-groups, within}
-use Rattle.number.proofs.Answering.{gathered-is}
+use Rattle.number.proofs.FrontGroups.{fronts, are-groups, within}
+use Rattle.number.proofs.Findings.{gathered-is}
 use Rattle.number.proofs.Laws.{past-end}
 use Rattle.number.proofs.read_at.Statement.{statement}
 use Rattle.number.proofs.read_at.Tie as tie
 
--- what gathering found, of the bytes from the place on
+-- what gathering found, of the bytes from there on
 found : (c : tie.After-gather) (e : Ending) → c .gather .result ≡ e
     → gather mostGroups (drop (c .before .before .before .before .before .args .at) (now (c .before .before .before .before .before .args .file))) ≡ gathered e (c .gather .last .1 .0)
 found c e q =
@@ -59,11 +59,11 @@ form-requires c κs =
     let came = c .before .before .count .given in
     let n = came .0 .0 in
     let known : counted (Last n (came .0 .1 .0)) groups = rw (came .1) at (g .gather .ensures .1) in
-    let standing = stands mostGroups _ _ (found g (Last n (came .0 .1 .0)) (came .1)) in (
+    let front = fronts mostGroups _ _ (found g (Last n (came .0 .1 .0)) (came .1)) in (
       known,
       (
-        are-groups standing,
-        omega (arith, known .came, within standing, length-take n groups, length-drop (s .args .at) (now (s .args .file)), s .good),
+        are-groups front,
+        omega (arith, known .came, within front, length-take n groups, length-drop (s .args .at) (now (s .args .file)), s .good),
       ),
     )
 

@@ -1,93 +1,55 @@
 // The header, read number by number.
-ghost use Rattle.records.specs.Run.{run};
-ghost use Rattle.records.specs.Fields.{reads};
-ghost use Rattle.records.specs.Periods.{header};
+ghost use mathlib.Core.Path.{_≡_};
+ghost use Rattle.fields.specs.Spots.{firstSpot, readsAt};
+ghost use Rattle.records.specs.Headers.{header, headerOf};
 ghost use Rattle.records.specs.Inside.{headerRead};
-use crate::answer::Answer;
+use crate::counts::Counts;
 use crate::header::Header;
-use crate::line::Line;
-use crate::plant::Plant;
-use crate::segment::Segment;
-use number::Number;
+use fields::Refusal;
+use fields::Spot;
+use fields::Taken;
+use fields::take;
 
-// The header, and where the first record starts; or the reason to refuse the file.
+// The header's counts, and where the first record starts; or why the file is refused.
 pub(crate) enum ReadHeader {
-    // How many records of each kind there are.
-    Whole {
-        plants: u64,
-        segments: u64,
-        lines: u64,
-        next: usize,
-    },
-    Refused {
-        answer: Answer,
-    },
+    Whole(Counts, Spot),
+    Refused(Refusal),
 }
 
-// Reads the header, at the start of the file.
+// Reads the header, at the start of the file: each number is tested before the next one is taken.
 pub(crate) fn read_header(file: &[u8]) -> ReadHeader
-    ensures { λ r. ⌜ headerRead (now (file .entry)) r (reads header 0 (run (now (file .entry)))) ⌝ }
+    ensures { λ r. ⌜ headerRead (now (file .entry)) r (readsAt header (now (file .entry)) firstSpot) ⌝ }
 {
-    let found = number::read_at(file, 0);
-    let Number::Value {
-        value: edition,
-        next: at_plants,
-    } = found
-    else {
-        return ReadHeader::Refused {
-            answer: Answer::of_number(found, 0),
-        };
-    };
-    if edition != Header::EDITION {
-        return ReadHeader::Refused {
-            answer: Answer::Edition { place: 0 },
-        };
+    let mut values = [0u64; Header::FIELDS];
+    let mut at = Spot::first();
+    let mut f = 0;
+    while f < Header::FIELDS {
+        match take(file, at) {
+            Taken::Refused(refusal) => return ReadHeader::Refused(refusal),
+            Taken::Value(value, next) => {
+                if !Header::allows(f, value) {
+                    return ReadHeader::Refused(at.refusal(Header::reason(f)));
+                }
+                values[f] = value;
+                at = next;
+            }
+        }
+        f += 1;
     }
-    let found = number::read_at(file, at_plants);
-    let Number::Value {
-        value: plants,
-        next: at_segments,
-    } = found
-    else {
-        return ReadHeader::Refused {
-            answer: Answer::of_number(found, 1),
-        };
+    let counts = Counts {
+        plants: values[1],
+        segments: values[2],
+        lines: values[3],
     };
-    if !Plant::count_allowed(plants) {
-        return ReadHeader::Refused {
-            answer: Answer::Count { place: 1 },
-        };
-    }
-    let found = number::read_at(file, at_segments);
-    let Number::Value {
-        value: segments,
-        next: at_lines,
-    } = found
-    else {
-        return ReadHeader::Refused {
-            answer: Answer::of_number(found, 2),
-        };
-    };
-    if !Segment::count_allowed(segments) {
-        return ReadHeader::Refused {
-            answer: Answer::Count { place: 2 },
-        };
-    }
-    let found = number::read_at(file, at_lines);
-    let Number::Value { value: lines, next } = found else {
-        return ReadHeader::Refused {
-            answer: Answer::of_number(found, 3),
-        };
-    };
-    if !Line::count_allowed(lines) {
-        return ReadHeader::Refused {
-            answer: Answer::Count { place: 3 },
-        };
-    }
-    ReadHeader::Whole {
-        plants,
-        segments,
-        lines,
-        next,
+    ReadHeader::Whole(counts, at)
+}
+
+// What the header of a file tells, whatever stands behind it.
+pub fn header_of(file: &[u8]) -> Header
+    ensures { λ r. ⌜ r ≡ headerOf (now (file .entry)) ⌝ }
+{
+    match read_header(file) {
+        ReadHeader::Refused(_refusal) => Header::TellsNothing,
+        ReadHeader::Whole(counts, _) => Header::Tells(counts),
     }
 }

@@ -1,107 +1,80 @@
-// The plants of a file: "exported kg; first segment (1 to S); origin fraction in millionths (0 to 1,000,000)".
-ghost use Prim.Native.Nat.{_≤_};
-ghost use lib.ListN.{drop};
-ghost use Rattle.records.specs.Plants.{mostPlants};
-ghost use Rattle.records.specs.Segments.{mostSegments};
-ghost use Rattle.records.specs.Run.{run};
-ghost use Rattle.records.specs.Fields.{reads};
-ghost use Rattle.records.specs.Periods.{plant, mostNumbers};
+// The plants of a file, one record after another.
+ghost use Prim.Native.Nat.{_+_, _*_, _^_, _<_};
+ghost use Rattle.fields.specs.Spots.{readsAt};
+ghost use Rattle.records.specs.Plants.{mostPlants, plantFields};
+ghost use Rattle.records.specs.Periods.{plant};
+ghost use Rattle.records.specs.Within.{CountsWithin};
 ghost use Rattle.records.specs.Inside.{plantRead, plantsRead};
-use crate::answer::Answer;
-use crate::header::Header;
+use crate::counts::Counts;
 use crate::plant::Plant;
-use number::Number;
+use fields::Answer;
+use fields::Reason;
+use fields::Refusal;
+use fields::Spot;
+use fields::Taken;
+use fields::take;
 
-// One plant's record, and where the next record starts.
+// One plant's record, and where the next record starts; or why the file is refused.
 pub(crate) enum ReadPlant {
-    Whole { plant: Plant, next: usize },
-    Refused { answer: Answer },
+    Whole(Plant, Spot),
+    Refused(Refusal),
 }
 
-// Reads the record that starts at a byte and at a number's place, for a period of so many segments.
-pub(crate) fn read_plant(file: &[u8], at: usize, place: u64, segments: u64) -> ReadPlant
-    requires { ⌜ place ≤ mostNumbers ⌝ }
-    requires { ⌜ segments ≤ mostSegments ⌝ }
-    ensures { λ r. ⌜ plantRead (now (file .entry)) place r (reads (plant segments) place (run (drop at (now (file .entry))))) ⌝ }
+// Reads the record that starts at a spot: each number is tested before the next one is taken.
+pub(crate) fn read_plant(file: &[u8], start: Spot, counts: Counts) -> ReadPlant
+    requires { ⌜ CountsWithin counts ⌝ }
+    requires { ⌜ start .place + plantFields < 2 ^ 64 ⌝ }
+    ensures { λ r. ⌜ plantRead (now (file .entry)) start r (readsAt (plant counts) (now (file .entry)) start) ⌝ }
 {
-    let found = number::read_at(file, at);
-    let Number::Value {
-        value: exported,
-        next: at_first,
-    } = found
-    else {
-        return ReadPlant::Refused {
-            answer: Answer::of_number(found, place),
-        };
-    };
-    let found = number::read_at(file, at_first);
-    let Number::Value {
-        value: first,
-        next: at_fraction,
-    } = found
-    else {
-        return ReadPlant::Refused {
-            answer: Answer::of_number(found, place + 1),
-        };
-    };
-    if !Plant::first_allowed(first, segments) {
-        return ReadPlant::Refused {
-            answer: Answer::Plant { place: place + 1 },
-        };
+    let mut values = [0u64; Plant::FIELDS];
+    let mut at = start;
+    let mut f = 0;
+    while f < Plant::FIELDS {
+        match take(file, at) {
+            Taken::Refused(refusal) => return ReadPlant::Refused(refusal),
+            Taken::Value(value, next) => {
+                if !Plant::allows(f, value, counts) {
+                    return ReadPlant::Refused(at.refusal(Reason::WrongPlant));
+                }
+                values[f] = value;
+                at = next;
+            }
+        }
+        f += 1;
     }
-    let found = number::read_at(file, at_fraction);
-    let Number::Value {
-        value: fraction,
-        next,
-    } = found
-    else {
-        return ReadPlant::Refused {
-            answer: Answer::of_number(found, place + 2),
-        };
-    };
-    if !Plant::fraction_allowed(fraction) {
-        return ReadPlant::Refused {
-            answer: Answer::Plant { place: place + 2 },
-        };
-    }
-    ReadPlant::Whole {
-        plant: Plant::new(exported, first, fraction),
-        next,
-    }
+    ReadPlant::Whole(Plant::new(values[0], values[1], values[2]), at)
 }
 
-// The plants of a period, accepted where all were read, and where the next record starts.
+// The plants of a period, accepted where all were read, and where the last one ends.
 pub(crate) struct Plants {
     pub(crate) answer: Answer,
     pub(crate) plants: [Plant; Plant::MOST],
-    pub(crate) next: usize,
+    pub(crate) next: Spot,
 }
 
-// Reads so many plants, the first of which starts at a byte.
-pub(crate) fn read_plants(file: &[u8], start: usize, count: usize, segments: u64) -> Plants
-    requires { ⌜ count ≤ mostPlants ⌝ }
-    requires { ⌜ segments ≤ mostSegments ⌝ }
-    ensures { λ r. ⌜ plantsRead (now (file .entry)) start count segments r ⌝ }
+// Reads as many plants as the header announced, of which the first starts at a spot.
+pub(crate) fn read_plants(file: &[u8], start: Spot, counts: Counts) -> Plants
+    requires { ⌜ CountsWithin counts ⌝ }
+    requires { ⌜ start .place + plantFields * mostPlants < 2 ^ 64 ⌝ }
+    ensures { λ r. ⌜ plantsRead (now (file .entry)) start counts r ⌝ }
 {
     let mut plants = [Plant::new(0, 0, 0); Plant::MOST];
     let mut at = start;
-    let mut place = Header::FIELDS;
     let mut p = 0;
-    while p < count {
-        match read_plant(file, at, place, segments) {
-            ReadPlant::Refused { answer } => {
+    while p < counts.plants as usize {
+        match read_plant(file, at, counts) {
+            ReadPlant::Refused(refusal) => {
                 return Plants {
-                    answer,
+                    answer: Answer::Refused(refusal),
                     plants,
                     next: at,
                 };
             }
-            ReadPlant::Whole { plant, next } => {
+            ReadPlant::Whole(plant, next) => {
                 plants[p] = plant;
                 at = next;
             }
         }
-        place += Plant::FIELDS;
         p += 1;
     }
     Plants {

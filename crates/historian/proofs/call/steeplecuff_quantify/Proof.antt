@@ -2,37 +2,42 @@
 -- wrote into the lent tables are written into the historian's. Assumes nothing.
 use mathlib.Core.Path.{_≡_, sym, ap, _∙_}
 use native.Mathlib.Omega.{arith}
-use lib.ListN.{length}
 use denote.Ref.{now}
 use borrow.Author.Needs.{needs}
-use Rattle.records.specs.Answers.{numberOf, placeOf}
-use Rattle.accounts.specs.Order.{Answer}
-use Rattle.accounts.specs.Quantified.{quantified}
-use Rattle.period.specs.Written.{verdictOf}
-use Rattle.historian.specs.Tables.{answerTo, plantBytesAfter, segmentBytesAfter}
-use Rattle.historian.proofs.Tables.{lent, lent-length, mostPlantNumbers, mostSegmentNumbers, same-answer, Back, within-room, whole-length, bytes-after, plantsOf, segmentsOf, plants-back, segments-back, plant-bytes, segment-bytes}
+use Rattle.fields.specs.Answers.{refusalNumber, refusalPlace}
+use Rattle.accounts.specs.Order.{Ruling}
+use Rattle.period.specs.Written.{Lent, lent, rulingOn, rulingVerdict, plantEntries, segmentEntries}
+use Rattle.historian.specs.Tables.{entryRuling, bytesOverwritten}
+use Rattle.historian.proofs.Tables.{lentPart, lent-length, mostPlantNumbers, mostSegmentNumbers, same-ruling, Back, within-room, whole-length, bytes-after}
 use Rattle.historian.proofs.call.steeplecuff_quantify.Statement.{statement}
 use Rattle.historian.proofs.call.steeplecuff_quantify.Tie as tie
 
 -- ---- what is known when the call below has answered
--- the answer that it gave, with the lent tables
-abbrev told : tie.After-quantify → Answer
-told c =
-    quantified
-    (now (c .before .before .before .before .before .before .before .before .args .file))
-    (length (lent mostPlantNumbers (c .before .before .before .before .room .result)))
-    (length (lent mostSegmentNumbers (c .before .before .before .room2 .result)))
+module _ (c : tie.After-quantify) where
+  -- the ruling that it gave, with the lent tables
+  abbrev told : Ruling
+  told =
+      rulingOn (now (c .before .before .before .before .before .before .before .before .args .file))
+      (lent (lentPart mostPlantNumbers (c .before .before .before .before .room .result)) (lentPart mostSegmentNumbers (c .before .before .before .room2 .result)))
 
--- the lent tables came back, with the numbers of that answer
-plants :
-    (c : tie.After-quantify) →
-    Back (plantsOf (told c)) mostPlantNumbers (c .before .before .before .before .room .result) (c .quantify .last .1 .0) (c .quantify .result .«plant_numbers»)
-plants c = plants-back (omega arith) (c .quantify .kept .1 .0) (told c) (c .quantify .ensures .plants-after) (c .quantify .ensures .answers .plants)
+  -- the lent tables came back, with the numbers of that ruling
+  plants :
+      Back (plantEntries told) mostPlantNumbers (c .before .before .before .before .room .result) (c .quantify .last .1 .0) (c .quantify .result .«plant_numbers»)
+  plants = record {
+    fits = omega arith;
+    kept = c .quantify .kept .1 .0;
+    after = ap (λ (tables : Lent). tables .plants) (c .quantify .ensures .leaves);
+    counted = c .quantify .ensures .hands-back .plants;
+  }
 
-segments :
-    (c : tie.After-quantify) →
-    Back (segmentsOf (told c)) mostSegmentNumbers (c .before .before .before .room2 .result) (c .quantify .last .1 .1 .0) (c .quantify .result .«segment_numbers»)
-segments c = segments-back (omega arith) (c .quantify .kept .1 .1 .0) (told c) (c .quantify .ensures .segments-after) (c .quantify .ensures .answers .segments)
+  segments :
+      Back (segmentEntries told) mostSegmentNumbers (c .before .before .before .room2 .result) (c .quantify .last .1 .1 .0) (c .quantify .result .«segment_numbers»)
+  segments = record {
+    fits = omega arith;
+    kept = c .quantify .kept .1 .1 .0;
+    after = ap (λ (tables : Lent). tables .segments) (c .quantify .ensures .leaves);
+    counted = c .quantify .ensures .hands-back .segments;
+  }
 
 -- ---- the needs
 room-requires : tie.Need-room-requires
@@ -88,22 +93,20 @@ returns : tie.Need-returns
 returns c =
     let q = c .before .before .before .before .before .before .before .before .before .before .before .before .before .before in
     let a = q .before .before .before .before .before .before .before .before .args in
-    let same : told q ≡ answerTo (now (a .file)) (now (a .plants)) (now (a .segments)) =
-    same-answer (now (a .file)) (now (a .plants)) (now (a .segments)) _ _ (q .before .before .before .before .room .ensures) (q .before .before .before .room2 .ensures) in
-    let verdict = q .quantify .ensures .answers .verdict ∙ ap verdictOf same in
+    let same : told q ≡ entryRuling (now (a .file)) (now (a .plants)) (now (a .segments)) =
+    same-ruling (now (a .file)) (now (a .plants)) (now (a .segments)) _ _ (q .before .before .before .before .room .ensures) (q .before .before .before .room2 .ensures) in
+    let verdict = q .quantify .ensures .hands-back .verdict ∙ ap rulingVerdict same in
     record {
-      result = c .refusal .ensures ∙ ap numberOf verdict;
-      place = c .before .place .ensures ∙ ap placeOf verdict;
+      result = c .refusal .ensures ∙ ap refusalNumber verdict;
+      place = c .before .place .ensures ∙ ap refusalPlace verdict;
       plants-after =
           c .before .before .before .before .before .before .before .before .before .write-numbers .ensures
           ∙ bytes-after (plants q) (now (a .plants))
-          ∙ plant-bytes (told q) (now (a .plants))
-          ∙ ap (λ (x : Answer). plantBytesAfter x (now (a .plants))) same;
+          ∙ ap (λ (x : Ruling). bytesOverwritten (plantEntries x) (now (a .plants))) same;
       segments-after =
           c .before .before .before .before .write-numbers2 .ensures
           ∙ bytes-after (segments q) (now (a .segments))
-          ∙ segment-bytes (told q) (now (a .segments))
-          ∙ ap (λ (x : Answer). segmentBytesAfter x (now (a .segments))) same;
+          ∙ ap (λ (x : Ruling). bytesOverwritten (segmentEntries x) (now (a .segments))) same;
     }
 
 pub steeplecuff-quantify-spec : {M : Type 1} → statement M

@@ -5,7 +5,7 @@ use mathlib.Core.List.{flatMap}
 use native.Mathlib.Omega.{arith}
 use lib.ListN.{getD}
 use denote.Ref.{now}
-use Rattle.period.proofs.Writing.{Writing, writing-start, writing-length, writing-room, writing-on, writing-end}
+use Rattle.period.proofs.RowsWritten.{Writing, writing-start, writing-length, writing-room, writing-on, writing-end}
 use Rattle.historian.specs.Tables.{numberBytes, eightBytes}
 use Rattle.historian.proofs.Bytes.{firstBytes, length-bytes, one-number-more}
 use Rattle.historian.proofs.table.write_numbers.Statement.{statement}

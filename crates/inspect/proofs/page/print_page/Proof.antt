@@ -39,8 +39,8 @@ moved c =
     (found .1)
 
 -- ---- the needs
-of-requires : tie.Need-of-requires Inv-loop μ-loop
-of-requires c κs = search needs
+header-of-requires : tie.Need-header-of-requires Inv-loop μ-loop
+header-of-requires c κs = search needs
 
 loop-holds : tie.Need-loop-holds Inv-loop μ-loop
 loop-holds c = omega arith
@@ -81,7 +81,7 @@ print-page-spec =
     (tie.spec
     Inv-loop
     μ-loop
-    of-requires
+    header-of-requires
     loop-holds
     step-at-requires
     field-at-requires

@@ -1,5 +1,5 @@
--- `Inspector::at` meets its contract: the place is the reader's second field, and reading it leaves the reader alone.
--- That the place is a `usize` is part of what whoever holds a reader knows.
+-- `Inspector::at` meets its contract: the byte is the reader's second field, and reading it leaves the reader alone.
+-- That the byte is a `usize` is part of what whoever holds a reader knows.
 -- Assumes nothing.
 use Prim.Native.Nat.{_<_, _^_}
 use mathlib.Core.Path.{refl}
@@ -55,7 +55,7 @@ module _ {M : Type 1} (𝓤 : URA M) (H : Heap 𝓤) (A : Atoms 𝓤) (W : Given
   abbrev Post : Val → SProp 𝓤
   Post = walkOf 𝓤 H A at.ended stayed (at.clauses 𝓤 H A mem run) .post (((κ, tt), (q, tt), tt, (reader, tt), (mach ∷ [], tt)), tt)
 
-  -- what is had at entry is enough for the exit, with the place as the result
+  -- what is had at entry is enough for the exit, with the byte as the result
   exits : reader .at < 2 ^ 64 → ent 𝓤 (onEntry 𝓤 H A at.signature (κ, tt) (q, tt) (reader, tt) (mach ∷ [], tt)) (Post (vint w64 (reader .at)))
   exits g =
       qed W ((‵ (flft κ q) ⊛ ‵ ftrue) ∷ ‵ (owns (Reader (κ, tt) ∷ []) (reader, tt) (mach ∷ [], tt)) ∷ []) ∵

@@ -1,5 +1,5 @@
--- `Inspector::new` meets its contract: the file passed and the place 0 are put together in the result's local, and that is the reader at the start of the file.
--- A `&[u8]` can be copied, so what the file owns is had for the reader and once more for the exit. The place owns nothing but that 0 is a `usize`.
+-- `Inspector::new` meets its contract: the file passed and the byte 0 are put together in the result's local, and that is the reader at the start of the file.
+-- A `&[u8]` can be copied, so what the file owns is had for the reader and once more for the exit. The byte owns nothing but that 0 is a `usize`.
 -- Assumes nothing.
 use Prim.Native.Nat.{ℕ}
 use mathlib.Core.Path.{refl}
@@ -73,7 +73,7 @@ module _ {M : Type 1} (𝓤 : URA M) (H : Heap 𝓤) (A : Atoms 𝓤) (W : Given
       qed W ((‵ (flft κ q) ⊛ ‵ ftrue) ∷ ‵ (owns (ShrSlice (named 0) κ u8 ∷ []) (file, tt) vals) ∷ []) ∵
       suffices ! _ (ends-at 𝓤 H A new.ended stayed (new.clauses 𝓤 H A mem run) W (((κ, tt), (q, tt), tt, (file, tt), vals), tt) (T′.lowered made) made (tt, tt) (tt, tt)) $ says ! refl $
       frame ! $ fsplit ! $ use1 W (‵ Own ⊛ ‵ Own) (shr-slice-copy 𝓤 H A W (named 0) κ u8 .twice file (v ∷ [])) $ split ! $ move ! (0 ∷ 2 ∷ []) $ fjoin ! $ frame ! $
-      -- [what the file owns]: beside the place's fact it is what the reader owns
+      -- [what the file owns]: beside the byte's fact it is what the reader owns
       nothing ! $ owned ! usize (Is usize) (uint-makes 𝓤 H A W w64) 0 _ (refl, lit< tt) $ fjoin ! $ move ! (1 ∷ 0 ∷ []) $ fjoin ! $ by ! (own-shut 𝓤 H A W (T.the-type α) (T′.the-laws α) (file, (0, tt)))
 
   module _ (C : Calls 𝓤 H) (Λ : Loops 𝓤 H) where

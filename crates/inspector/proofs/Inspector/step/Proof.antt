@@ -1,4 +1,4 @@
--- `Inspector::step` meets its contract: the loan of the reader is opened, number reading is asked where the reader stands, the place that `after` names is stored in the
+-- `Inspector::step` meets its contract: the loan of the reader is opened, number reading is asked where the reader stands, the byte that `after` names is stored in the
 -- reader, and the loan is closed at the reader so moved. What `read_at` and `after` promise is all that is known of them, and it is what `step` promises.
 -- A reader can be copied. The file of one copy goes to `read_at`, with the token of 'a, which comes back; over the other copy the loan is closed.
 -- Assumes nothing.
@@ -46,10 +46,10 @@ use denote.Triple.Entry.{Vals, onEntry}
 use denote.Triple.Spec.{Meets, tripleOf}
 use denote.Triple.Table.{entered, cited}
 use denote.Triple.Walked.{Stays, stay-ref, walkOf, goes-ref, Walks, ends-at, walked, walk-meets}
-use Rattle.number.specs.Reading.{readAt}
-use Rattle.number.specs.Answers.{said}
-use Rattle.number.specs.Counting.{endOf}
 use Rattle.number.specs.declared.Number.{Number}
+use Rattle.number.specs.Reading.{readAt}
+use Rattle.number.specs.Finding.{finds}
+use Rattle.number.specs.Counting.{endOf}
 use Rattle.number.proofs.Number as N
 use Rattle.number.proofs.read_at as read
 use Rattle.number.proofs.read_at.Symbol as read-def
@@ -97,16 +97,16 @@ module _ {M : Type 1} (𝓤 : URA M) (H : Heap 𝓤) (A : Atoms 𝓤) (W : Given
   abbrev fields : Values (D .parts)
   fields = (reader .file, (reader .at, tt))
 
-  -- the reader with another place
+  -- the reader at another byte
   abbrev moved : ℕ → Inspector
-  moved place = record { file = reader .file; at = place }
+  moved byte = record { file = reader .file; at = byte }
 
-  -- what is known of an answer, and of the place after it
+  -- what is known of an answer, and of the byte after it
   abbrev Answers : Number → Type 0
-  Answers found = said found ≡ readAt (now (reader .file)) (reader .at)
+  Answers found = finds found ≡ readAt (now (reader .file)) (reader .at)
 
   abbrev Ends : Number → ℕ → Type 0
-  Ends found place = place ≡ endOf (reader .at) (said found)
+  Ends found byte = byte ≡ endOf (reader .at) (finds found)
 
   -- the parameter, and its machine value
   abbrev x : RefT Inspector × Unit {0}
@@ -147,7 +147,7 @@ module _ {M : Type 1} (𝓤 : URA M) (H : Heap 𝓤) (A : Atoms 𝓤) (W : Given
       qed W (‵ Own ∷ (‵ (flft κ′ q′) ⊛ ‵ ftrue) ∷ []) ∵
       use1 W (‵ Own ⊛ ‵ Own) (LL.copy D (T′.the-copy (second κ′)) 𝓤 H A W .twice reader (mach ∷ [])) $ split ! $
       use1 W (given (mach ∷ [] ≡ mach ∷ []) (‵ (all-own (D .parts) L fields))) (own-open 𝓤 H A W D L fields mach) $ learn ! (λ _. use1 W (‵ (ownAt (D .parts) L 0 (reader .file)) ⊛ ‵ (rest (D .parts) L 0 fields)) (own-out 𝓤 H A W (D .parts) L 0 fields) $ split ! $
-      -- [what the file owns; what the place owns; what the reader owns; 'a's token]
+      -- [what the file owns; what the byte owns; what the reader owns; 'a's token]
       move ! (1 ∷ []) $ drop ! $ nothing ! $ owned ! usize (Is usize) (uint-makes 𝓤 H A W w64) (reader .at) _ (refl, fits) $ fjoin ! $ move ! (1 ∷ 0 ∷ []) $ fjoin ! $
       move ! (2 ∷ 0 ∷ []) $ use2 W (raw (ReadAt 𝓤 H A at-mem run .pre to-read)) asks-read $ frame ! $ done !)
 
@@ -160,19 +160,19 @@ module _ {M : Type 1} (𝓤 : URA M) (H : Heap 𝓤) (A : Atoms 𝓤) (W : Given
       qed W [] ∵ nothing ! $ owned ! usize (Is usize) (uint-makes 𝓤 H A W w64) (reader .at) _ (refl, fits) $ fjoin ! $ owned ! N.the-row (Is N.the-row) (answer-makes 𝓤 H A) found (u ∷ []) is $ fjoin ! $
       nothing ! $ join ! $ frame ! $ done !
 
-  went : (found : Number) (place : ℕ) → ent 𝓤 (ensured 𝓤 H A after.ended (after.clauses 𝓤 H A at-mem run) tt (found, (reader .at, tt)) tt place) (fact 𝓤 (Ends found place))
-  went found place = exE 𝓤 _ (λ ws. snd∗ 𝓤 (sem 𝓤 H A (lasts after.ended tt (found, (reader .at, tt)) ws)) (fact 𝓤 (Ends found place)))
+  went : (found : Number) (byte : ℕ) → ent 𝓤 (ensured 𝓤 H A after.ended (after.clauses 𝓤 H A at-mem run) tt (found, (reader .at, tt)) tt byte) (fact 𝓤 (Ends found byte))
+  went found byte = exE 𝓤 _ (λ ws. snd∗ 𝓤 (sem 𝓤 H A (lasts after.ended tt (found, (reader .at, tt)) ws)) (fact 𝓤 (Ends found byte)))
 
-  -- the reader with another place owns what it owned: the file is the same, and a place owns nothing but that it is a `usize`
-  again : (place : ℕ) → place < 2 ^ 64 → ent 𝓤 (sem 𝓤 H A Own) (sem 𝓤 H A (R .own (moved place) (T′.lowered (moved place) ∷ [])))
-  again place fits = qed W (‵ Own ∷ []) ∵ owned ! usize (Is usize) (uint-makes 𝓤 H A W w64) place _ (refl, fits) $ move ! (1 ∷ 0 ∷ []) $ by ! (own-put 𝓤 H A W D L 1 fields place mach)
+  -- the reader at another byte owns what it owned: the file is the same, and a byte owns nothing but that it is a `usize`
+  again : (byte : ℕ) → byte < 2 ^ 64 → ent 𝓤 (sem 𝓤 H A Own) (sem 𝓤 H A (R .own (moved byte) (T′.lowered (moved byte) ∷ [])))
+  again byte fits = qed W (‵ Own ∷ []) ∵ owned ! usize (Is usize) (uint-makes 𝓤 H A W w64) byte _ (refl, fits) $ move ! (1 ∷ 0 ∷ []) $ by ! (own-put 𝓤 H A W D L 1 fields byte mach)
 
   -- what is had once the loan is closed is enough for the exit
-  exits : (found : Number) (u : Val) (place : ℕ) → Answers found → Ends found place
-      → ent 𝓤 (⋆ 𝓤 H A (‵ (fobs γ (R .coded .code (moved place))) ∷ ‵ (fbor κ (Body (mem R) b o γ)) ∷ ‵ (flft κ q) ∷ ‵ (N.the-row .own found (u ∷ [])) ∷ (‵ (flft κ′ q′) ⊛ ‵ ftrue) ∷ [])) (Post u)
-  exits found u place e e′ =
-      qed W (‵ (fobs γ (R .coded .code (moved place))) ∷ ‵ (fbor κ (Body (mem R) b o γ)) ∷ ‵ (flft κ q) ∷ ‵ (N.the-row .own found (u ∷ [])) ∷ (‵ (flft κ′ q′) ⊛ ‵ ftrue) ∷ []) ∵
-      suffices ! _ (ends-at 𝓤 H A step.ended stayed (step.clauses 𝓤 H A at-mem run) W (((κ, (κ′, tt)), (q, (q′, tt)), bounds, x, vals), tt) u found (moved place, tt) (tt, tt)) $
+  exits : (found : Number) (u : Val) (byte : ℕ) → Answers found → Ends found byte
+      → ent 𝓤 (⋆ 𝓤 H A (‵ (fobs γ (R .coded .code (moved byte))) ∷ ‵ (fbor κ (Body (mem R) b o γ)) ∷ ‵ (flft κ q) ∷ ‵ (N.the-row .own found (u ∷ [])) ∷ (‵ (flft κ′ q′) ⊛ ‵ ftrue) ∷ [])) (Post u)
+  exits found u byte e e′ =
+      qed W (‵ (fobs γ (R .coded .code (moved byte))) ∷ ‵ (fbor κ (Body (mem R) b o γ)) ∷ ‵ (flft κ q) ∷ ‵ (N.the-row .own found (u ∷ [])) ∷ (‵ (flft κ′ q′) ⊛ ‵ ftrue) ∷ []) ∵
+      suffices ! _ (ends-at 𝓤 H A step.ended stayed (step.clauses 𝓤 H A at-mem run) W (((κ, (κ′, tt)), (q, (q′, tt)), bounds, x, vals), tt) u found (moved byte, tt) (tt, tt)) $
       says-both ! e (ap moved (e′ ∙ ap (endOf (reader .at)) e)) $
       move ! (2 ∷ 4 ∷ []) $ join ! $ frame ! $ feqI ! (List Val) (vptr b o ∷ []) (vptr b o ∷ []) refl $ fjoin3 ! $ nothing ! $ move ! (1 ∷ 0 ∷ []) $ fjoin ! $ frame ! $ done !
 
@@ -203,21 +203,21 @@ module _ {M : Type 1} (𝓤 : URA M) (H : Heap 𝓤) (A : Atoms 𝓤) (W : Given
         assigns ! (of-opd ! (load ! (from ! (hop ! (look ! 16 refl) (fld ! refl (stop !)))) (look-in ! 3 (sub ! 1 refl (whole !))))) (from ! (stop !)) (init ! 8 refl (tt, typed g .1 .1 .0)) $
         use0 W (raw (After 𝓤 H A at-mem run .pre (to-after found u))) (asks-after (typed g .1 .1 .0 .fits) found u is) $
         calls-at ! fm (After 𝓤 H A at-mem run) known-after (to-after found u) (and-then ! (load ! (from ! (stop !)) (look ! 15 refl)) (and-then ! (load ! (from ! (stop !)) (look ! 9 refl)) (no-more !))) (λ w.
-        use1 W (later (some (λ (place : ℕ). (‵ ftrue ⊛ ‵ (usize .own place (w ∷ []))) ⊛ raw (ensured 𝓤 H A after.ended (after.clauses 𝓤 H A at-mem run) tt (found, (reader .at, tt)) tt place)))) (id⊢ 𝓤 _) $ await ! tt $ pick ! (λ place.
-        split ! $ move ! (1 ∷ []) $ use1 W (raw (fact 𝓤 (Ends found place))) (went found place) $ heard ! (Ends found place) (λ e′. split ! $ drop ! $
-        peeks ! usize (Is usize) (shows 𝓤 H A usize) place (w ∷ []) (λ is′. drop ! $
+        use1 W (later (some (λ (byte : ℕ). (‵ ftrue ⊛ ‵ (usize .own byte (w ∷ []))) ⊛ raw (ensured 𝓤 H A after.ended (after.clauses 𝓤 H A at-mem run) tt (found, (reader .at, tt)) tt byte)))) (id⊢ 𝓤 _) $ await ! tt $ pick ! (λ byte.
+        split ! $ move ! (1 ∷ []) $ use1 W (raw (fact 𝓤 (Ends found byte))) (went found byte) $ heard ! (Ends found byte) (λ e′. split ! $ drop ! $
+        peeks ! usize (Is usize) (shows 𝓤 H A usize) byte (w ∷ []) (λ is′. drop ! $
         -- [the answer; 'a's token; what the reader owns; its cell; the open loan; its two names; _; _5; …; _4; …; _3; …; _2; …; _1; …; room for _0; …]
-        land ! (from ! (stop !)) (store ! 10 refl (uint-lawful 𝓤 H A W w64 .typed place _ is′ .0)) $ rewrite ! 10 (λ (z : Val). ‵ (fat fullShare (tyInt w64) l₄ 0 z)) (ap only (is′ .0)) refl $
+        land ! (from ! (stop !)) (store ! 10 refl (uint-lawful 𝓤 H A W w64 .typed byte _ is′ .0)) $ rewrite ! 10 (λ (z : Val). ‵ (fat fullShare (tyInt w64) l₄ 0 z)) (ap only (is′ .0)) refl $
         assigns ! (of-opd ! (load ! (from ! (stop !)) (look ! 10 refl))) (from ! (hop ! (look ! 16 refl) (fld ! refl (stop !)))) (store-in ! 3 (sub ! 1 refl (whole !)) (tt, record { fits = is′ .1 })) $
         assigns ! (of-opd ! (load ! (from ! (stop !)) (look ! 14 refl))) (from ! (stop !)) (init ! 18 refl (answer-fits 𝓤 H A W found u is)) $
-        -- the loan is closed at the reader with the new place
-        move ! (2 ∷ []) $ use1 W (‵ (R .own (moved place) (T′.lowered (moved place) ∷ []))) (again place (is′ .1)) $
-        move ! (3 ∷ []) $ use1 W (‵ (cellAt fullShare (R .mir) (T′.lowered (moved place) ∷ []) b o)) (W .laws .at-raw fullShare (T′.mir erased) b o (T′.lowered (moved place))) $
-        move ! (0 ∷ 1 ∷ 4 ∷ 5 ∷ 6 ∷ []) $ closes ! tt R (moved place) (T′.lowered (moved place) ∷ []) b o $
+        -- the loan is closed at the reader at the new byte
+        move ! (2 ∷ []) $ use1 W (‵ (R .own (moved byte) (T′.lowered (moved byte) ∷ []))) (again byte (is′ .1)) $
+        move ! (3 ∷ []) $ use1 W (‵ (cellAt fullShare (R .mir) (T′.lowered (moved byte) ∷ []) b o)) (W .laws .at-raw fullShare (T′.mir erased) b o (T′.lowered (moved byte))) $
+        move ! (0 ∷ 1 ∷ 4 ∷ 5 ∷ 6 ∷ []) $ closes ! tt R (moved byte) (T′.lowered (moved byte) ∷ []) b o $
         -- [the loan's name; the loan; its token; the answer; 'a's token; _; _5; …; _4; …; _3; …; _2; …; _1; …; _0; …]
         returns ! (look ! 16 refl) $ forget ! 6 refl $ forget ! 8 refl $ forget ! 10 refl $ forget ! 12 refl $ forget ! 14 refl $ forget ! 16 refl $
         move ! (16 ∷ 17 ∷ []) $ free1 ! $ move ! (14 ∷ 15 ∷ []) $ free1 ! $ move ! (12 ∷ 13 ∷ []) $ free1 ! $ move ! (10 ∷ 11 ∷ []) $ free1 ! $ move ! (8 ∷ 9 ∷ []) $ free1 ! $ move ! (6 ∷ 7 ∷ []) $ free1 ! $ free0 ! $
-        keep ! (0 ∷ 1 ∷ 2 ∷ 3 ∷ 4 ∷ []) $ by ! (exits found u place e e′)))))))))))))))))
+        keep ! (0 ∷ 1 ∷ 2 ∷ 3 ∷ 4 ∷ []) $ by ! (exits found u byte e e′)))))))))))))))))
 
 module _ {M : Type 1} (𝓤 : URA M) (H : Heap 𝓤) (A : Atoms 𝓤) (W : Given 𝓤 H A) (mem : Memory → SProp 𝓤) (run : Routine → Fun 𝓤) where
   step-walks : (C : Calls 𝓤 H) (Λ : Loops 𝓤 H) → FmC 𝓤 H (W .laws) C → Triple 𝓤 (C #number·read-at) (ReadAt 𝓤 H A mem run) → Triple 𝓤 (C #inspector·after) (After 𝓤 H A mem run)

@@ -1,5 +1,5 @@
--- `step_at` meets its contract: a reader is made in a local of the file and the place passed, lent to `step`, and once it is back asked where it stands. What `step` found
--- and that place are the result. The reader comes back as `step` left it (`Lent.antt`), so what `step` and `at` promise of it is what `step_at` promises.
+-- `step_at` meets its contract: a reader is made in a local of the file and the byte passed, lent to `step`, and once it is back asked where it stands. What `step` found
+-- and that byte are the result. The reader comes back as `step` left it (`Lent.antt`), so what `step` and `at` promise of it is what `step_at` promises.
 -- The file can be copied, so what it owns is had for the reader and once more for the exit.
 -- Assumes nothing.
 use Prim.Native.Nat.{ℕ, _<_, _^_}
@@ -41,13 +41,13 @@ use denote.Triple.Spec.{Meets, tripleOf}
 use denote.Triple.Table.{entered, cited}
 use denote.Triple.Walked.{says, Stays, stay-none, stay-none-slice, walkOf, goes-none, goes-none-slice, Walks, ends-at, walked, walk-meets}
 use denote.Exit.{yes}
-use Rattle.number.specs.Reading.{readAt}
-use Rattle.number.specs.Answers.{said}
 use Rattle.number.specs.declared.Number.{Number}
+use Rattle.number.specs.Reading.{readAt}
+use Rattle.number.specs.Finding.{finds}
 use Rattle.number.proofs.Number as N
-use Rattle.inspector.specs.Reader.{stepped, saidOfStep, stepAt}
 use Rattle.inspector.specs.declared.Inspector.{Inspector}
 use Rattle.inspector.specs.declared.step.Step.{Step}
+use Rattle.inspector.specs.Reader.{stepped, steppedBy, stepAt}
 use Rattle.inspector.proofs.ByHand.{second, Reader, answer-fits, heard-both}
 use Rattle.inspector.proofs.Lent.{to, Stands, Tokens, Lent, lends, comes-back}
 use Rattle.inspector.proofs.Inspector as T
@@ -130,27 +130,27 @@ module _ {M : Type 1} (𝓤 : URA M) (H : Heap 𝓤) (A : Atoms 𝓤) (W : Given
   goes-at : (moved : Inspector) → ent 𝓤 (⋆ 𝓤 H A (‵ (R .own moved (T′.lowered moved ∷ [])) ∷ ‵ (flft κ q) ∷ [])) (At 𝓤 H A mem run .pre (to-at moved))
   goes-at moved = qed W (‵ (R .own moved (T′.lowered moved ∷ [])) ∷ ‵ (flft κ q) ∷ []) ∵ nothing ! $ move ! (1 ∷ 0 ∷ []) $ fjoin ! $ nothing ! $ move ! (2 ∷ 0 ∷ []) $ join ! $ join ! $ frame ! $ done !
 
-  at-said : (moved : Inspector) (place : ℕ) → ent 𝓤 (ensured 𝓤 H A at.ended (at.clauses 𝓤 H A mem run) (κ, tt) (moved, tt) tt place) (fact 𝓤 (place ≡ moved .at))
-  at-said moved place = exE 𝓤 _ (λ ws. snd∗ 𝓤 (sem 𝓤 H A (lasts at.ended (κ, tt) (moved, tt) ws)) (fact 𝓤 (place ≡ moved .at)))
+  at-said : (moved : Inspector) (byte : ℕ) → ent 𝓤 (ensured 𝓤 H A at.ended (at.clauses 𝓤 H A mem run) (κ, tt) (moved, tt) tt byte) (fact 𝓤 (byte ≡ moved .at))
+  at-said moved byte = exE 𝓤 _ (λ ws. snd∗ 𝓤 (sem 𝓤 H A (lasts at.ended (κ, tt) (moved, tt) ws)) (fact 𝓤 (byte ≡ moved .at)))
 
   -- the result, its machine value, and that the one is the other's
   abbrev result : Number → ℕ → Step
-  result found place = record { found = found; at = place }
+  result found byte = record { found = found; at = byte }
 
   abbrev mach : Val → ℕ → Val
-  mach u place = vstruct (vcons u (vcons (vint w64 place) vnil))
+  mach u byte = vstruct (vcons u (vcons (vint w64 byte) vnil))
 
-  is-result : (found : Number) (u : Val) (place : ℕ) → Is N.the-row found (u ∷ []) → place < 2 ^ 64 → Is S.the-row (result found place) (mach u place ∷ [])
-  is-result found u place is fits = ((u ∷ [], (vint w64 place ∷ [], tt)), (refl, (is, ((refl, fits), tt))))
+  is-result : (found : Number) (u : Val) (byte : ℕ) → Is N.the-row found (u ∷ []) → byte < 2 ^ 64 → Is S.the-row (result found byte) (mach u byte ∷ [])
+  is-result found u byte is fits = ((u ∷ [], (vint w64 byte ∷ [], tt)), (refl, (is, ((refl, fits), tt))))
 
   -- what is had at the end is enough for the exit
-  exits : (found : Number) (u : Val) (place : ℕ) → Is S.the-row (result found place) (mach u place ∷ []) → start < 2 ^ 64 → saidOfStep (result found place) ≡ stepAt (now file) start
-      → ent 𝓤 (⋆ 𝓤 H A ((‵ (flft κ q) ⊛ ‵ ftrue) ∷ ‵ Own ∷ [])) (Post (mach u place))
-  exits found u place is fits e =
+  exits : (found : Number) (u : Val) (byte : ℕ) → Is S.the-row (result found byte) (mach u byte ∷ []) → start < 2 ^ 64 → steppedBy (result found byte) ≡ stepAt (now file) start
+      → ent 𝓤 (⋆ 𝓤 H A ((‵ (flft κ q) ⊛ ‵ ftrue) ∷ ‵ Own ∷ [])) (Post (mach u byte))
+  exits found u byte is fits e =
       qed W ((‵ (flft κ q) ⊛ ‵ ftrue) ∷ ‵ Own ∷ []) ∵
-      suffices ! _ (ends-at 𝓤 H A step-at.ended stayed (step-at.clauses 𝓤 H A mem run) W (((κ, tt), (q, tt), tt, x, vals), tt) (mach u place) (result found place) (tt, (tt, tt)) (tt, (tt, tt))) $ says ! e $
+      suffices ! _ (ends-at 𝓤 H A step-at.ended stayed (step-at.clauses 𝓤 H A mem run) W (((κ, tt), (q, tt), tt, x, vals), tt) (mach u byte) (result found byte) (tt, (tt, tt)) (tt, (tt, tt))) $ says ! e $
       frame ! $ nothing ! $ owned ! usize (Is usize) (uint-makes 𝓤 H A W w64) start _ (refl, fits) $ fjoin ! $ move ! (1 ∷ 0 ∷ []) $ fjoin ! $ frame ! $
-      owned ! S.the-row (Is S.the-row) (LL.makes S.the-type S′.the-plain 𝓤 H A) (result found place) _ is $ done !
+      owned ! S.the-row (Is S.the-row) (LL.makes S.the-type S′.the-plain 𝓤 H A) (result found byte) _ is $ done !
 
   module _ (C : Calls 𝓤 H) (Λ : Loops 𝓤 H) (fm : FmC 𝓤 H (W .laws) C) (known-step : Triple 𝓤 (C #inspector·step) (Steps 𝓤 H A mem run)) (known-at : Triple 𝓤 (C #inspector·at) (At 𝓤 H A mem run)) where
     walk : Is (ShrSlice (named 0) κ u8) file (v ∷ []) → start < 2 ^ 64 → ent 𝓤 (onEntry 𝓤 H A step-at.signature (κ, tt) (q, tt) x vals) (WpFn 𝓤 H C Λ code.function (v ∷ vint w64 start ∷ []) Post)
@@ -159,7 +159,8 @@ module _ {M : Type 1} (𝓤 : URA M) (H : Heap 𝓤) (A : Atoms 𝓤) (W : Given
         alloc1 ! (λ l₀. alloc1 ! (λ l₁. alloc1 ! (λ l₂. alloc1 ! (λ l₃. alloc1 ! (λ l₄. alloc1 ! (λ l₅. alloc1 ! (λ l₆. alloc1 ! (λ l₇. alloc0 ! $ params1 ! $
         pass1 ! (init ! 12 refl (shr-slice-lawful 𝓤 H A W (named 0) κ u8 .typed file (v ∷ []) p .0)) $ pass1 ! (init ! 10 refl (tt, record { fits = fits })) $ pass0 ! $
         -- [room for _7; …; room for _6; …; room for _5; …; room for _4; …; room for _3; …; _2; …; _1; …; room for _0; …; what is had at entry]
-        assigns ! (agg ! (and-then ! (load ! (from ! (stop !)) (look ! 12 refl)) (and-then ! (load ! (from ! (stop !)) (look ! 10 refl)) (no-more !)))) (from ! (stop !)) (init ! 8 refl (tt, (shr-slice-lawful 𝓤 H A W (named 0) κ u8 .typed file (v ∷ []) p .0 .1, (record { fits = fits }, tt)))) $
+        assigns ! (agg ! (and-then ! (load ! (from ! (stop !)) (look ! 12 refl)) (and-then ! (load ! (from ! (stop !)) (look ! 10 refl)) (no-more !)))) (from ! (stop !))
+        (init ! 8 refl (tt, (shr-slice-lawful 𝓤 H A W (named 0) κ u8 .typed file (v ∷ []) p .0 .1, (record { fits = fits }, tt)))) $
         assigns ! (addr ! (from ! (stop !))) (from ! (stop !)) (init ! 4 refl (tt, tt)) $
         move ! (16 ∷ []) $ use1 W (‵ (fsep (flft κ q) (fsep (R .own reader (T′.lowered reader ∷ [])) Own))) begins $ fsplit3 ! $
         -- the reader stands in _3, and is lent
@@ -168,10 +169,11 @@ module _ {M : Type 1} (𝓤 : URA M) (H : Heap 𝓤) (A : Atoms 𝓤) (W : Given
         fsplit3 ! $ use2 W (raw (Steps 𝓤 H A mem run .pre (to-step l₃ ν γ))) (goes-step l₃ ν γ) $
         -- [what `step` asks; what is kept; what the file owns; room for _7; …; room for _6; …; _5; …; room for _4; …; … of _3; _2; …; _1; …; room for _0; …]
         calls-at ! fm (Steps 𝓤 H A mem run) known-step (to-step l₃ ν γ) (and-then ! (load ! (from ! (stop !)) (look ! 7 refl)) (no-more !)) (λ u.
-        use1 W (later (some (λ (found : Number). (‵ (Tokens κ q l₃ ν) ⊛ ‵ (N.the-row .own found (u ∷ []))) ⊛ raw (ensured 𝓤 H A step.ended (step.clauses 𝓤 H A mem run) (ν ∷ κ, (κ, tt)) (to l₃ γ reader, tt) tt found)))) (id⊢ 𝓤 _) $ await ! tt $ pick ! (λ found.
+        use1 W (later (some (λ (found : Number). (‵ (Tokens κ q l₃ ν) ⊛ ‵ (N.the-row .own found (u ∷ []))) ⊛ raw (ensured 𝓤 H A step.ended (step.clauses 𝓤 H A mem run)
+        (ν ∷ κ, (κ, tt)) (to l₃ γ reader, tt) tt found)))) (id⊢ 𝓤 _) $ await ! tt $ pick ! (λ found.
         split ! $ move ! (1 ∷ []) $
-        use1 W (some (λ (ws : Inspector × Unit {0}). ‵ (lasts step.ended (ν ∷ κ, (κ, tt)) (to l₃ γ reader, tt) ws) ⊛ raw (sep 𝓤 (fact 𝓤 (said found ≡ readAt (now file) start)) (fact 𝓤 (ws .0 ≡ stepped reader))))) (id⊢ 𝓤 _) $ pick ! (λ ws.
-        split ! $ move ! (1 ∷ []) $ heard-both ! (said found ≡ readAt (now file) start) (ws .0 ≡ stepped reader) (λ e e′. fsplit ! $ move ! (1 ∷ []) $ drop ! $ move ! (1 ∷ []) $ split ! $ move ! (1 ∷ []) $
+        use1 W (some (λ (ws : Inspector × Unit {0}). ‵ (lasts step.ended (ν ∷ κ, (κ, tt)) (to l₃ γ reader, tt) ws) ⊛ raw (sep 𝓤 (fact 𝓤 (finds found ≡ readAt (now file) start)) (fact 𝓤 (ws .0 ≡ stepped reader))))) (id⊢ 𝓤 _) $ pick ! (λ ws.
+        split ! $ move ! (1 ∷ []) $ heard-both ! (finds found ≡ readAt (now file) start) (ws .0 ≡ stepped reader) (λ e e′. fsplit ! $ move ! (1 ∷ []) $ drop ! $ move ! (1 ∷ []) $ split ! $ move ! (1 ∷ []) $
         facts ! N.the-row (Is N.the-row) (shows 𝓤 H A N.the-row) found (u ∷ []) (λ is.
         -- [the loan's tokens; its last value; what is kept; what the file owns; room for _7; …; room for _6; …; _5; …; room for _4; …; … of _3; _2; …; _1; …; room for _0; …]
         land ! (from ! (stop !)) (init ! 10 refl (answer-fits 𝓤 H A W found u is)) $
@@ -182,15 +184,17 @@ module _ {M : Type 1} (𝓤 : URA M) (H : Heap 𝓤) (A : Atoms 𝓤) (W : Given
         assigns ! (of-opd ! (load ! (from ! (stop !)) (look ! 2 refl))) (from ! (stop !)) (init ! 4 refl (LL.lawful (T.the-type nameless) (T′.the-laws nameless) 𝓤 H A W .typed (ws .0) _ g .0)) $
         use2 W (raw (At 𝓤 H A mem run .pre (to-at (ws .0)))) (goes-at (ws .0)) $
         calls-at ! fm (At 𝓤 H A mem run) known-at (to-at (ws .0)) (and-then ! (load ! (from ! (stop !)) (look ! 3 refl)) (no-more !)) (λ w.
-        use1 W (later (some (λ (place : ℕ). ((‵ (flft κ q) ⊛ ‵ ftrue) ⊛ ‵ (usize .own place (w ∷ []))) ⊛ raw (ensured 𝓤 H A at.ended (at.clauses 𝓤 H A mem run) (κ, tt) (ws .0, tt) tt place)))) (id⊢ 𝓤 _) $ await ! tt $ pick ! (λ place.
-        split ! $ move ! (1 ∷ []) $ use1 W (raw (fact 𝓤 (place ≡ ws .0 .at))) (at-said (ws .0) place) $ heard ! (place ≡ ws .0 .at) (λ e″. split ! $ move ! (1 ∷ []) $
-        facts ! usize (Is usize) (shows 𝓤 H A usize) place (w ∷ []) (λ is′.
+        use1 W (later (some (λ (byte : ℕ). ((‵ (flft κ q) ⊛ ‵ ftrue) ⊛ ‵ (usize .own byte (w ∷ []))) ⊛ raw (ensured 𝓤 H A at.ended (at.clauses 𝓤 H A mem run) (κ, tt) (ws .0, tt) tt byte)))) (id⊢ 𝓤 _) $ await ! tt $ pick ! (λ byte.
+        split ! $ move ! (1 ∷ []) $ use1 W (raw (fact 𝓤 (byte ≡ ws .0 .at))) (at-said (ws .0) byte) $ heard ! (byte ≡ ws .0 .at) (λ e″. split ! $ move ! (1 ∷ []) $
+        facts ! usize (Is usize) (shows 𝓤 H A usize) byte (w ∷ []) (λ is′.
         -- [the token; _3; what the file owns; _7; …; room for _6; …; _5; …; _4; …; … of _3; _2; …; _1; …; room for _0; …]
-        land ! (from ! (stop !)) (init ! 5 refl (uint-lawful 𝓤 H A W w64 .typed place _ is′ .0)) $ rewrite ! 5 (λ (z : Val). ‵ (fat fullShare (tyInt w64) l₆ 0 z)) (ap only (is′ .0)) refl $
-        assigns ! (agg ! (and-then ! (load ! (from ! (stop !)) (look ! 9 refl)) (and-then ! (load ! (from ! (stop !)) (look ! 5 refl)) (no-more !)))) (from ! (stop !)) (init ! 16 refl (LL.lawful S.the-type S′.the-laws 𝓤 H A W .typed (result found place) _ (is-result found u place is (is′ .1)) .0)) $
+        land ! (from ! (stop !)) (init ! 5 refl (uint-lawful 𝓤 H A W w64 .typed byte _ is′ .0)) $ rewrite ! 5 (λ (z : Val). ‵ (fat fullShare (tyInt w64) l₆ 0 z)) (ap only (is′ .0)) refl $
+        assigns ! (agg ! (and-then ! (load ! (from ! (stop !)) (look ! 9 refl)) (and-then ! (load ! (from ! (stop !)) (look ! 5 refl)) (no-more !)))) (from ! (stop !))
+        (init ! 16 refl (LL.lawful S.the-type S′.the-laws 𝓤 H A W .typed (result found byte) _ (is-result found u byte is (is′ .1)) .0)) $
         returns ! (look ! 16 refl) $ forget ! 1 refl $ forget ! 3 refl $ forget ! 5 refl $ forget ! 7 refl $ forget ! 9 refl $ forget ! 12 refl $ forget ! 14 refl $ forget ! 16 refl $
-        move ! (16 ∷ 17 ∷ []) $ free1 ! $ move ! (14 ∷ 15 ∷ []) $ free1 ! $ move ! (12 ∷ 13 ∷ []) $ free1 ! $ move ! (1 ∷ 11 ∷ []) $ free1 ! $ move ! (8 ∷ 9 ∷ []) $ free1 ! $ move ! (6 ∷ 7 ∷ []) $ free1 ! $ move ! (4 ∷ 5 ∷ []) $ free1 ! $ move ! (2 ∷ 3 ∷ []) $ free1 ! $ free0 ! $
-        by ! (exits found u place (is-result found u place is (is′ .1)) fits (λ i. record { answer = e i; at = (e″ ∙ ap (λ (z : Inspector). z .at) e′) i }))))))))))))))))))))))
+        move ! (16 ∷ 17 ∷ []) $ free1 ! $ move ! (14 ∷ 15 ∷ []) $ free1 ! $ move ! (12 ∷ 13 ∷ []) $ free1 ! $ move ! (1 ∷ 11 ∷ []) $ free1 ! $ move ! (8 ∷ 9 ∷ []) $ free1 ! $ move ! (6 ∷ 7 ∷ []) $
+        free1 ! $ move ! (4 ∷ 5 ∷ []) $ free1 ! $ move ! (2 ∷ 3 ∷ []) $ free1 ! $ free0 ! $
+        by ! (exits found u byte (is-result found u byte is (is′ .1)) fits (λ i. record { found = e i; at = (e″ ∙ ap (λ (z : Inspector). z .at) e′) i }))))))))))))))))))))))
 
 module _ {M : Type 1} (𝓤 : URA M) (H : Heap 𝓤) (A : Atoms 𝓤) (W : Given 𝓤 H A) (mem : Memory → SProp 𝓤) (run : Routine → Fun 𝓤) where
   step-at-walks : (C : Calls 𝓤 H) (Λ : Loops 𝓤 H) → FmC 𝓤 H (W .laws) C → Triple 𝓤 (C #inspector·step) (Steps 𝓤 H A mem run) → Triple 𝓤 (C #inspector·at) (At 𝓤 H A mem run)
@@ -201,7 +205,10 @@ module _ {M : Type 1} (𝓤 : URA M) (H : Heap 𝓤) (A : Atoms 𝓤) (W : Given
 step-at-meets : {M : Type 1} (𝓤 : URA M) (H : Heap 𝓤) (A : Atoms 𝓤) (W : Given 𝓤 H A) (mem : Memory → SProp 𝓤) (run : Routine → Fun 𝓤) (𝓣 : Tables 𝓤 H)
     → Triple 𝓤 (𝓣 .C #inspector·step) (Steps 𝓤 H A mem run) → Triple 𝓤 (𝓣 .C #inspector·at) (At 𝓤 H A mem run)
     → Meets 𝓤 H A step-at.signature (WpFn 𝓤 H (𝓣 .C) (𝓣 .Λ) code.function) (step-at.spec 𝓤 H A mem run)
-step-at-meets 𝓤 H A W mem run 𝓣 known-step known-at = walk-meets 𝓤 H A step-at.ended stayed W (goes-none-slice 𝓤 H A W 1 (0 ∷ []) tt (plain (λ _. u8)) yes, (goes-none 𝓤 H A W 1 (λ _. usize) yes (λ κs x f. refl), tt)) (step-at.clauses 𝓤 H A mem run) (WpFn 𝓤 H (𝓣 .C) (𝓣 .Λ) code.function) (WpFn-mono 𝓤 H (W .laws) 𝓣 code.function)
+step-at-meets 𝓤 H A W mem run 𝓣 known-step known-at =
+    walk-meets 𝓤 H A step-at.ended stayed W
+    (goes-none-slice 𝓤 H A W 1 (0 ∷ []) tt (plain (λ _. u8)) yes, (goes-none 𝓤 H A W 1 (λ _. usize) yes (λ κs x f. refl), tt))
+    (step-at.clauses 𝓤 H A mem run) (WpFn 𝓤 H (𝓣 .C) (𝓣 .Λ) code.function) (WpFn-mono 𝓤 H (W .laws) 𝓣 code.function)
     (step-at-walks 𝓤 H A W mem run (𝓣 .C) (𝓣 .Λ) (fmOf 𝓤 H (W .laws) 𝓣) known-step known-at)
 
 pub step-at-spec : {M : Type 1} → stated.statement M

@@ -5,11 +5,10 @@ use mathlib.Core.List.{List}
 use native.Mathlib.Omega.{arith}
 use lib.ListN.{length, take, getD}
 use lib.Seq.{length-take-le, getD-take}
+use borrow.Author.Needs.{needs}
 use Rattle.records.specs.declared.line.Line.{Line}
-use Rattle.records.specs.Plants.{mostPlants}
-use Rattle.records.specs.Segments.{mostSegments}
 use Rattle.records.specs.Lines.{noLine}
-use Rattle.records.specs.Within.{LineWithin}
+use Rattle.records.specs.Within.{LineWithin, mostCounts}
 use Rattle.period.proofs.Totals.{place-below, line-within, line-owner, line-grams, Adding, Next, adding-start, adding-on, adding-refused, adding-end}
 use Rattle.period.proofs.emissions.add_up.Statement.{statement}
 use Rattle.period.proofs.emissions.add_up.Tie as tie
@@ -38,7 +37,7 @@ module _ (c : tie.In-loop Inv-loop μ-loop) where
   more : c .before .loop .l < length lines
   more = omega (arith, counted (c .before .before))
 
-  within : LineWithin mostPlants mostSegments 1 line
+  within : LineWithin mostCounts 1 line
   within = rw line-is at (line-within lines (c .before .loop .l) more (c .before .before .pre .1))
 
 -- with the place of its owner's total
@@ -81,11 +80,16 @@ add-total c =
     let place = c .before .before .place-of .result in
     omega (arith, line-grams (within (c .before .before .before .before)), c .before .before .before .before .before .loop .inv .few place)
 
-add-t21 : tie.Need-add-t21 Inv-loop μ-loop
-add-t21 c = omega arith
+add-too-many-grams : tie.Need-add-too-many-grams Inv-loop μ-loop
+add-too-many-grams c = omega arith
+
+too-many-grams-requires : tie.Need-too-many-grams-requires Inv-loop μ-loop
+too-many-grams-requires c κs = search needs
 
 returns : tie.Need-returns Inv-loop μ-loop
-returns c = adding-refused (c .before .before .before .before .before .before .loop .inv) (next (c .before .before .before)) (omega arith)
+returns c =
+    rw (c .too-many-grams .ensures)
+    (adding-refused (c .before .before .before .before .before .before .before .loop .inv) (next (c .before .before .before .before)) (omega arith))
 
 mul-grams : tie.Need-mul-grams Inv-loop μ-loop
 mul-grams c = omega (arith, place-below (next (c .before .before .before) .owner))
@@ -103,10 +107,15 @@ loop-again : tie.Need-loop-again Inv-loop μ-loop
 loop-again c = adding-on (c .before .before .before .before .before .before .loop .inv) (next (c .before .before .before)) (omega arith)
 
 in-kg-requires : tie.Need-in-kg-requires Inv-loop μ-loop
-in-kg-requires c κs = c .before .loop .inv .few
+in-kg-requires c κs = (c .before .loop .inv .few, omega arith)
+
+in-kg-requires-2 : tie.Need-in-kg-requires-2 Inv-loop μ-loop
+in-kg-requires-2 c κs = (c .before .before .loop .inv .few, omega arith)
 
 returns-2 : tie.Need-returns-2 Inv-loop μ-loop
-returns-2 c = rw (c .in-kg .ensures) (adding-end (c .before .before .loop .inv) (omega (arith, counted (c .before .before .before))))
+returns-2 c =
+    let l = c .before .before .before .loop in
+    adding-end (l .inv) (omega (arith, counted (c .before .before .before .before))) (c .before .in-kg .ensures) (c .in-kg2 .ensures)
 
 pub add-up-spec : {M : Type 1} → statement M
 add-up-spec =
@@ -124,7 +133,8 @@ add-up-spec =
     cast-total-2
     mul-total-2
     add-total
-    add-t21
+    add-too-many-grams
+    too-many-grams-requires
     returns
     mul-grams
     array-write-grams
@@ -132,4 +142,5 @@ add-up-spec =
     loop-less
     loop-again
     in-kg-requires
+    in-kg-requires-2
     returns-2)

@@ -9,7 +9,7 @@ use native.Mathlib.Omega.{arith}
 use lib.ListN.{length}
 use denote.Ref.{now}
 use Rattle.number.specs.Groups.{largest}
-use Rattle.period.specs.Inside.{cell, column}
+use Rattle.period.specs.Books.{cell, column}
 use Rattle.period.proofs.Crediting.{Next, Crediting, crediting-start, so-far-most, shared-most, crediting-on, crediting-end}
 use Rattle.period.proofs.Columns.{column-length, column-next}
 use Rattle.period.proofs.flow.credits.Statement.{statement}

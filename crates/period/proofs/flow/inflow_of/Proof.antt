@@ -6,8 +6,8 @@ use native.Mathlib.Numerals.{add-one}
 use native.Mathlib.Omega.{arith}
 use lib.ListN.{drop}
 use denote.Ref.{now}
-use Rattle.accounts.specs.Walk.{sum}
-use Rattle.period.specs.Inside.{cell, column}
+use Rattle.accounts.specs.Sums.{sum}
+use Rattle.period.specs.Books.{cell, column}
 use Rattle.period.proofs.Crediting.{Next}
 use Rattle.period.proofs.Columns.{column-next, column-end}
 use Rattle.period.proofs.flow.inflow_of.Statement.{statement}

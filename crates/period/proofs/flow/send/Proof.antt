@@ -8,7 +8,7 @@ use lib.Dec.{eqb}
 use lib.ListN.{getD}
 use lib.Seq.{getD-take}
 use Rattle.accounts.specs.Accounts.{hasBit}
-use Rattle.period.specs.Inside.{Sized, cell}
+use Rattle.period.specs.Books.{Sized, cell}
 use Rattle.period.proofs.Cells.{Filled, none-yet, one-kept, put-sized, put-filled}
 use Rattle.period.proofs.flow.send.Statement.{statement}
 use Rattle.period.proofs.flow.send.Tie as tie

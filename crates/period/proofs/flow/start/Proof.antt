@@ -4,8 +4,7 @@ use mathlib.Core.Path.{_≡_}
 use native.Mathlib.Omega.{arith}
 use lib.ListN.{getD}
 use Rattle.records.specs.Plants.{noPlant}
-use Rattle.records.specs.Segments.{mostSegments}
-use Rattle.records.specs.Within.{PlantWithin}
+use Rattle.records.specs.Within.{PlantWithin, mostCounts}
 use Rattle.period.proofs.Starting.{AtStart, none-started, one-started, all-started, plant-within}
 use Rattle.period.proofs.flow.start.Statement.{statement}
 use Rattle.period.proofs.flow.start.Tie as tie
@@ -24,7 +23,7 @@ loop-holds c = rw (c .pre .1 .1 .0, c .pre .1 .1 .1) (omega arith, none-started 
 -- the limits of the plant whose turn it is
 within :
     (c : lts.In-loop reads.Pre reads.Post Inv-loop μ-loop) →
-    PlantWithin mostSegments (suc (c .before .loop .p)) (getD (c .before .before .args .t3) (c .before .loop .p) noPlant)
+    PlantWithin mostCounts (suc (c .before .loop .p)) (getD (c .before .before .args .t3) (c .before .loop .p) noPlant)
 within c =
     let a = c .before .before .args in
     plant-within (a .t3) (a .count) (c .before .loop .p) (omega arith) (omega arith) (c .before .before .pre .1 .0)

@@ -1,21 +1,52 @@
--- `period::flow::work` meets its contract: the three tests in their order, and then the plants go on. Assumes nothing.
-use Prim.Native.Nat.{suc}
-use mathlib.Core.Path.{sym, _∙_}
-use mathlib.Core.Logic.{inl, inr, ⊎-elim}
-use native.Mathlib.Numerals.{unary-clauses}
+-- `period::flow::work` meets its contract: the segment's tests, and then the plants go on. Assumes nothing.
+use Prim.Native.Nat.{ℕ, suc, _-_, _<_}
+use mathlib.Core.Path.{_≡_, subst}
+use mathlib.Core.List.{[], _∷_}
 use native.Mathlib.Omega.{arith}
-use lib.ListN.{getD}
 use denote.Ref.{now}
 use borrow.Author.Needs.{needs}
-use borrow.Author.Tests.{eqb-true}
-use Rattle.period.specs.Inside.{accountBy}
-use Rattle.period.proofs.Tests.{inflow-refused, outflow-refused, emission-refused, segment-passes}
-use Rattle.period.proofs.Turns.{moved-to-store, moved-on, next-below, above-none, credits-small}
+use Rattle.fields.specs.declared.answer.Answer.{Answer}
+use Rattle.fields.specs.declared.answer.Answer.the-variants.{Accepted}
+use Rattle.fields.specs.Answers.{said}
+use Rattle.fields.proofs.Answers.{refused-not-accepted}
+use Rattle.records.specs.Segments.{mostSegments}
+use Rattle.accounts.specs.Order.{segmentTests}
+use Rattle.accounts.proofs.Accepting.{Sound}
+use Rattle.period.specs.declared.flow.Due.{Due}
+use Rattle.period.specs.Books.{Passes, Books, BooksSized, booksOf, accountBy}
+use Rattle.period.proofs.Tests.{own-tests, own-sound}
+use Rattle.period.proofs.SendingOn.{moved-to-store, moved-on, next-below, credits-small}
 use Rattle.period.proofs.flow.work.Statement.{statement}
 use Rattle.period.proofs.flow.work.Tie as tie
 
-add-place : tie.Need-add-place
-add-place c = search needs
+-- ---- what is known when the segment is tested
+module _ (t : tie.After-test) where
+  abbrev start : tie.Start
+  start = t .before .before .before .before .before
+
+  abbrev plants : ℕ
+  plants = start .args .plants
+
+  abbrev due : Due
+  due = start .args .due
+
+  -- the books as they are lent, and their sizes
+  abbrev books : Books
+  books = let a = start .args in booksOf (now (a .amounts)) (now (a .sets)) (now (a .inflows)) (now (a .stored))
+
+  sized : BooksSized books
+  sized = start .pre .1 .1 .1 .0
+
+  -- the next segment has its place in them
+  next-there : due .segment .next - 1 < mostSegments
+  next-there = next-below (suc (due .index)) (due .segment) (start .pre .1 .1 .0)
+
+  tests-here : Passes (said (t .test .result)) (segmentTests (accountBy plants due books ∷ []))
+  tests-here = own-tests plants due books (t .test .result) (t .before .inflow-of .ensures) (t .test .ensures)
+
+  -- no test failed
+  sound : t .test .result ≡ Accepted → Sound (accountBy plants due books)
+  sound = own-sound plants due books (t .test .result) (t .before .inflow-of .ensures) (t .test .ensures)
 
 cast-outflow : tie.Need-cast-outflow
 cast-outflow c = search needs
@@ -23,33 +54,36 @@ cast-outflow c = search needs
 inflow-of-requires : tie.Need-inflow-of-requires
 inflow-of-requires c κs = search needs
 
+add-test : tie.Need-add-test
+add-test c = search needs
+
+test-requires : tie.Need-test-requires
+test-requires c κs = search needs
+
+enum-known-answer : tie.Need-enum-known-answer
+enum-known-answer c = search needs
+
 returns : tie.Need-returns
 returns c =
-    let a = c .before .before .before .before .args in
-    simp unary-clauses (inflow-refused (accountBy (a .plants) (a .s) (a .segment) (a .emission) (now (a .amounts)) (now (a .sets))) (rw (c .before .inflow-of .ensures) at (c .if1 .taken)))
+    let t = c .before .before .before in
+    let tests : Answer → Type 0 = λ a. Passes (said a) (segmentTests (accountBy (plants t) (due t) (books t) ∷ [])) in
+    record { tests = subst tests (c .before .answer .given .1) (tests-here t); moved = λ is. absurd (refused-not-accepted is) }
 
-returns-2 : tie.Need-returns-2
-returns-2 c =
-    let a = c .before .before .before .before .before .args in
-    let inflow = c .before .before .inflow-of in
-    simp unary-clauses (outflow-refused (accountBy (a .plants) (a .s) (a .segment) (a .emission) (now (a .amounts)) (now (a .sets))) (rw (inflow .ensures) at (c .before .if1 .left)) (rw (inflow .ensures) at (c .if2 .taken)))
+enum-told : tie.Need-enum-told
+enum-told c = search needs
 
-returns-3 : tie.Need-returns-3
-returns-3 c =
-    let a = c .before .before .before .before .before .before .before .args in
-    let inflow = c .before .before .before .before .inflow-of in
-    simp unary-clauses
-    (emission-refused (accountBy (a .plants) (a .s) (a .segment) (a .emission) (now (a .amounts)) (now (a .sets)))
-    (rw (inflow .ensures) at (c .before .before .before .if1 .left))
-    (rw (inflow .ensures) at (c .before .before .if2 .left))
-    (c .before .if3 .taken)
-    (sym (inflow .ensures) ∙ eqb-true (inflow .result) 0 (c .if4 .taken)))
+mul-inflows : tie.Need-mul-inflows
+mul-inflows c = search needs
+
+element-write-inflows : tie.Need-element-write-inflows
+element-write-inflows c = search needs
 
 credits-requires : tie.Need-credits-requires
 credits-requires c κs =
-    let start = c .before .before .before .before .before .before .before in
-    let inflow = c .before .before .before .before .inflow-of in
-    (start .pre .0, (start .pre .1 .0, (start .pre .1 .1 .1 .0, (inflow .ensures, (c .before .before .before .if1 .left, c .before .before .if2 .left)))))
+    let t = c .before .before .before in
+    let tested = sound t (c .before .enum-told .given .1) in
+    let inflow-is = t .before .inflow-of .ensures in
+    (start t .pre .0, (start t .pre .1 .0, (sized t .amounts, (inflow-is, (rw inflow-is (tested .inflow), rw inflow-is (tested .outflow))))))
 
 mul-set : tie.Need-mul-set
 mul-set c = search needs
@@ -68,18 +102,11 @@ sub-send c = search needs
 
 send-requires : tie.Need-send-requires
 send-requires c κs =
-    let start = c .before .before .before .before .before .before .before .before .before .before .before .before in
-    let inflow = c .before .before .before .before .before .before .before .before .before .inflow-of in
-    let credits = c .before .before .before .before .credits in (
-      start .pre .0,
-      (
-        next-below (suc (start .args .s)) (start .args .segment) (start .pre .1 .1 .0),
-        (
-          start .pre .1 .1 .1 .0,
-          credits-small (start .args .plants) (credits .result) (start .args .segment .outflow) _ (credits .ensures)
-              (rw (inflow .ensures) at (c .before .before .before .before .before .before .before .if2 .left)) (rw (inflow .ensures) at (c .before .before .before .before .before .before .before .before .if1 .left)),
-        ),
-      ),
+    let t = c .before .before .before .before .before .before .before .before in
+    let credits = c .before .before .before .before .credits in
+    let tested = sound t (c .before .before .before .before .before .before .enum-told .given .1) in (
+      start t .pre .0,
+      (next-there t, (sized t .amounts, credits-small (plants t) (credits .result) _ _ (credits .ensures) (tested .outflow) (tested .inflow))),
     )
 
 sub-sets : tie.Need-sub-sets
@@ -89,59 +116,48 @@ mul-sets : tie.Need-mul-sets
 mul-sets c = search needs
 
 element-copy-out-sets : tie.Need-element-copy-out-sets
-element-copy-out-sets c =
-    let start = c .before .before .before .before .before .before .before .before .before .before .before .before .before in
-    next-below (suc (start .args .s)) (start .args .segment) (start .pre .1 .1 .0)
+element-copy-out-sets c = next-there (c .before .before .before .before .before .before .before .before .before)
 
 element-write-sets : tie.Need-element-write-sets
-element-write-sets c =
-    let start = c .before .before .before .before .before .before .before .before .before .before .before .before .before .before in
-    next-below (suc (start .args .s)) (start .args .segment) (start .pre .1 .1 .0)
+element-write-sets c = next-there (c .before .before .before .before .before .before .before .before .before .before)
 
-returns-4 : tie.Need-returns-4
-returns-4 c =
-    let start = c .before .before .before .before .before .before .before .before .before .before .before .before .before in
-    let a = start .args in
-    let inflow = c .before .before .before .before .before .before .before .before .before .before .inflow-of in
-    let fits = c .before .before .before .before .before .before .before .before .before .if1 .left in
-    let out = c .before .before .before .before .before .before .before .before .if2 .left in
-    let charged = ⊎-elim (λ some. inr (rw (inflow .ensures) at (above-none (inflow .result) (some .1 .left)))) (λ none. inl (none .left)) (c .before .before .before .before .before .before .before .if3 .came) in
-    let credits = c .before .before .before .before .before .credits in (
-      segment-passes (accountBy (a .plants) (a .s) (a .segment) (a .emission) (now (a .amounts)) (now (a .sets))) (rw (inflow .ensures) at fits) (rw (inflow .ensures) at out) charged,
-      inflow .ensures,
-      fits,
-      out,
-      moved-to-store (a .plants) (getD (now (a .sets)) (a .s) 0) (credits .result) _ (credits .ensures) (a .segment .next) (now (a .amounts)) (now (a .sets)) (now (a .stored)) _
-          (omega (arith, c .before .before .if5 .taken)) (start .pre .1 .1 .1 .0) (start .pre .1 .1 .1 .1 .0) (c .store .ensures),
-    )
+returns-2 : tie.Need-returns-2
+returns-2 c =
+    let t = c .before .before .before .before .before .before .before .before .before in
+    let credits = c .before .before .before .before .before .credits in
+    record {
+      tests = tests-here t;
+      moved = λ is.
+          rw (t .before .inflow-of .ensures)
+          (moved-to-store (plants t) (due t) (books t) (sized t) (credits .result) (credits .ensures) _ (omega (arith, c .before .before .if1 .taken)) (c .store .ensures));
+    }
 
-returns-5 : tie.Need-returns-5
-returns-5 c =
-    let start = c .before .before .before .before .before .before .before .before .before .before .before .before .before .before in
-    let a = start .args in
-    let inflow = c .before .before .before .before .before .before .before .before .before .before .before .inflow-of in
-    let fits = c .before .before .before .before .before .before .before .before .before .before .if1 .left in
-    let out = c .before .before .before .before .before .before .before .before .before .if2 .left in
-    let charged = ⊎-elim (λ some. inr (rw (inflow .ensures) at (above-none (inflow .result) (some .1 .left)))) (λ none. inl (none .left)) (c .before .before .before .before .before .before .before .before .if3 .came) in
-    let credits = c .before .before .before .before .before .before .credits in (
-      segment-passes (accountBy (a .plants) (a .s) (a .segment) (a .emission) (now (a .amounts)) (now (a .sets))) (rw (inflow .ensures) at fits) (rw (inflow .ensures) at out) charged,
-      inflow .ensures,
-      fits,
-      out,
-      moved-on (a .plants) (getD (now (a .sets)) (a .s) 0) (credits .result) _ (credits .ensures) (a .segment .next) (now (a .amounts)) _ (now (a .sets)) (now (a .stored))
-          (omega (arith, c .before .before .before .if5 .left)) (next-below (suc (a .s)) (a .segment) (start .pre .1 .1 .0)) (start .pre .1 .1 .1 .1 .0) (start .pre .1 .1 .1 .1 .1 .0) (c .before .send .ensures),
-    )
+returns-3 : tie.Need-returns-3
+returns-3 c =
+    let t = c .before .before .before .before .before .before .before .before .before .before in
+    let credits = c .before .before .before .before .before .before .credits in
+    let some = c .before .before .before .if1 .left in
+    record {
+      tests = tests-here t;
+      moved = λ is.
+          rw (t .before .inflow-of .ensures)
+          (moved-on (plants t) (due t) (books t) (sized t) (credits .result) (credits .ensures) (due t .segment .next - 1) _
+          (next-there t) (omega (arith, some)) (c .before .send .ensures));
+    }
 
 pub work-spec : {M : Type 1} → statement M
 work-spec =
     tie.close
     (tie.spec
-    add-place
     cast-outflow
     inflow-of-requires
+    add-test
+    test-requires
+    enum-known-answer
     returns
-    returns-2
-    returns-3
+    enum-told
+    mul-inflows
+    element-write-inflows
     credits-requires
     mul-set
     element-copy-out-set
@@ -153,5 +169,5 @@ work-spec =
     mul-sets
     element-copy-out-sets
     element-write-sets
-    returns-4
-    returns-5)
+    returns-2
+    returns-3)

@@ -5,44 +5,21 @@ use native.Mathlib.Omega.{arith}
 use denote.Ref.{now}
 use Rattle.accounts.specs.Order.{plantNumbers}
 use Rattle.period.specs.Inside.{plantRowsBy}
-use Rattle.period.proofs.Writing.{Writing, writing-start, writing-length, writing-room, writing-on, writing-end}
+use Rattle.period.proofs.RowsWritten.{Writing, writing-start, writing-length, writing-room, writing-on, writing-end}
 use Rattle.period.proofs.rows.write_plants.Statement.{statement}
 use Rattle.period.proofs.rows.write_plants.Tie as tie
 
 abbrev Inv-loop : tie.InvT-loop
-Inv-loop table₀ count amounts segments inflows plants stored kg p₀ table p = Writing plantNumbers (plantRowsBy plants amounts stored segments inflows kg) count table₀ table p
+Inv-loop table₀ count plants stored associated p₀ table p = Writing plantNumbers (plantRowsBy plants stored associated) count table₀ table p
 
 abbrev μ-loop : tie.MeasureT-loop
-μ-loop table₀ count amounts segments inflows plants stored kg p₀ table p = count - p
+μ-loop table₀ count plants stored associated p₀ table p = count - p
 
 loop-holds : tie.Need-loop-holds Inv-loop μ-loop
 unfolding plantRowsBy
 loop-holds c =
     let a = c .before .args in
-    writing-start plantNumbers (plantRowsBy (a .t2) (now (a .amounts)) (a .t5) (a .segments) (a .inflows) (a .t8)) (a .count)
-    (now (a .table)) (c .before .pre .enough) refl
-
-mul-associated : tie.Need-mul-associated Inv-loop μ-loop
-mul-associated c = omega arith
-
-array-read-associated : tie.Need-array-read-associated Inv-loop μ-loop
-array-read-associated c = omega arith
-
-mul-charges : tie.Need-mul-charges Inv-loop μ-loop
-mul-charges c = omega arith
-
-element-copy-out-charges : tie.Need-element-copy-out-charges Inv-loop μ-loop
-element-copy-out-charges c = omega arith
-
-charges-requires : tie.Need-charges-requires Inv-loop μ-loop
-charges-requires c κs =
-    let pre = c .before .before .before .before .pre in
-    (pre .most-segments, pre .chargeable (c .before .before .loop .p) (c .before .loop-test .taken))
-
-add-associated : tie.Need-add-associated Inv-loop μ-loop
-add-associated c =
-    let pre = c .before .before .before .before .before .pre in
-    omega (arith, pre .small (c .before .before .before .loop .p))
+    writing-start plantNumbers (plantRowsBy (a .t2) (a .t4) (a .t5)) (a .count) (now (a .table)) (c .before .pre .enough) refl
 
 mul-write-plant : tie.Need-mul-write-plant Inv-loop μ-loop
 mul-write-plant c = omega arith
@@ -59,11 +36,17 @@ mul-write-plant-3 c = omega arith
 array-read-write-plant : tie.Need-array-read-write-plant Inv-loop μ-loop
 array-read-write-plant c = omega arith
 
+mul-write-plant-4 : tie.Need-mul-write-plant-4 Inv-loop μ-loop
+mul-write-plant-4 c = omega arith
+
+array-read-write-plant-2 : tie.Need-array-read-write-plant-2 Inv-loop μ-loop
+array-read-write-plant-2 c = omega arith
+
 write-plant-requires : tie.Need-write-plant-requires Inv-loop μ-loop
 write-plant-requires c κs =
-    let pre = c .before .before .before .before .before .before .before .pre in
-    let l = c .before .before .before .before .before .loop in
-    let more = c .before .before .before .before .loop-test .taken in
+    let pre = c .before .before .before .before .before .pre in
+    let l = c .before .before .before .loop in
+    let more = c .before .before .loop-test .taken in
     (writing-room (l .inv) more, (pre .kept (l .p) more, (pre .exported (l .p) more, pre .fraction (l .p) more)))
 
 add-p : tie.Need-add-p Inv-loop μ-loop
@@ -75,9 +58,8 @@ loop-less c = omega arith
 loop-again : tie.Need-loop-again Inv-loop μ-loop
 unfolding plantRowsBy
 loop-again c =
-    let turn = c .before .before .before .before .before .before .before in
-    let charged = c .before .before .before .before .before .charges in
-    writing-on (turn .before .loop .inv) (turn .loop-test .taken) _ _ refl (rw (charged .ensures .0)) (c .before .before .write-plant .ensures)
+    let turn = c .before .before .before .before .before in
+    writing-on (turn .before .loop .inv) (turn .loop-test .taken) _ _ refl refl (c .before .before .write-plant .ensures)
 
 same-length : tie.Need-same-length Inv-loop μ-loop
 same-length c = writing-length (c .before .loop .inv)
@@ -92,17 +74,13 @@ write-plants-spec =
     Inv-loop
     μ-loop
     loop-holds
-    mul-associated
-    array-read-associated
-    mul-charges
-    element-copy-out-charges
-    charges-requires
-    add-associated
     mul-write-plant
     mul-write-plant-2
     array-copy-out-write-plant
     mul-write-plant-3
     array-read-write-plant
+    mul-write-plant-4
+    array-read-write-plant-2
     write-plant-requires
     add-p
     loop-less

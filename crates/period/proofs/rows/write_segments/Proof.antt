@@ -9,15 +9,15 @@ use denote.Ref.{now}
 use borrow.Author.Needs.{needs}
 use Rattle.accounts.specs.Order.{segmentNumbers}
 use Rattle.period.specs.Inside.{segmentRowsBy}
-use Rattle.period.proofs.Writing.{Writing, writing-start, writing-length, writing-room, writing-on, writing-end}
+use Rattle.period.proofs.RowsWritten.{Writing, writing-start, writing-length, writing-room, writing-on, writing-end}
 use Rattle.period.proofs.rows.write_segments.Statement.{statement}
 use Rattle.period.proofs.rows.write_segments.Tie as tie
 
 abbrev Inv-loop : tie.InvT-loop
-Inv-loop table₀ count segments sets inflows kg s₀ table s = Writing segmentNumbers (segmentRowsBy segments sets inflows kg) count table₀ table s
+Inv-loop table₀ count segments inflows sets emissions s₀ table s = Writing segmentNumbers (segmentRowsBy segments inflows sets emissions) count table₀ table s
 
 abbrev μ-loop : tie.MeasureT-loop
-μ-loop table₀ count segments sets inflows kg s₀ table s = count - s
+μ-loop table₀ count segments inflows sets emissions s₀ table s = count - s
 
 loop-holds : tie.Need-loop-holds Inv-loop μ-loop
 unfolding segmentRowsBy
@@ -45,11 +45,8 @@ cast-write-segment : tie.Need-cast-write-segment Inv-loop μ-loop
 cast-write-segment c =
     let start = c .before .before .before .before in
     let s = c .before .before .loop .s in
-    let inflow-fits : Fits w64 (getD (start .args .t5) s 0) = search needs in
+    let inflow-fits : Fits w64 (getD (start .args .t4) s 0) = search needs in
     omega (arith, start .pre .outflow s (c .before .loop-test .taken))
-
-add-write-segment : tie.Need-add-write-segment Inv-loop μ-loop
-add-write-segment c = omega arith
 
 mul-write-segment-4 : tie.Need-mul-write-segment-4 Inv-loop μ-loop
 mul-write-segment-4 c = omega arith
@@ -101,7 +98,6 @@ write-segments-spec =
     mul-write-segment-3
     element-copy-out-write-segment
     cast-write-segment
-    add-write-segment
     mul-write-segment-4
     array-read-write-segment-2
     mul-write-segment-5

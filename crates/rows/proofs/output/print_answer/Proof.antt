@@ -1,7 +1,7 @@
 -- `rows::output::print_answer` is safe and ends: the numbers that the call wrote stand at the start of the tables. Assumes nothing.
 use borrow.Author.Needs.{needs}
 use Rattle.io.specs.Counts.{Counts}
-use Rattle.rows.proofs.Within.{plants-within, segments-within}
+use Rattle.rows.proofs.NumbersThere.{plants-within, segments-within}
 use Rattle.rows.proofs.output.print_answer.Statement.{statement}
 use Rattle.rows.proofs.output.print_answer.Tie as tie
 
@@ -22,14 +22,17 @@ slice-aggregate-quantify-2 c = search needs
 quantify-requires : tie.Need-quantify-requires
 quantify-requires c κs = search needs
 
-enum-told : tie.Need-enum-told
-enum-told c = search needs
+enum-known-answer : tie.Need-enum-known-answer
+enum-known-answer c = search needs
 
 print-refusal-requires : tie.Need-print-refusal-requires
 print-refusal-requires c κs = search needs
 
 returns : tie.Need-returns
 returns c = search needs
+
+enum-told : tie.Need-enum-told
+enum-told c = search needs
 
 slice-aggregate-print-rows : tie.Need-slice-aggregate-print-rows
 slice-aggregate-print-rows c = search needs
@@ -68,9 +71,10 @@ print-answer-spec =
     slice-aggregate-quantify
     slice-aggregate-quantify-2
     quantify-requires
-    enum-told
+    enum-known-answer
     print-refusal-requires
     returns
+    enum-told
     slice-aggregate-print-rows
     array-share-prefix-plant-table
     slice-aggregate-print-rows-2

@@ -2,15 +2,15 @@
 use mathlib.Core.Path.{sym, _∙_}
 use native.Mathlib.Omega.{arith}
 use borrow.Author.Tests.{lt-leb}
-use Rattle.records.proofs.Ranges.{from-low, below-range}
+use Rattle.records.proofs.FieldRanges.{from-low, below-range}
 use Rattle.records.proofs.plant.Plant.first_allowed.Statement.{statement}
 use Rattle.records.proofs.plant.Plant.first_allowed.Tie as tie
 
 returns : tie.Need-returns
-returns c = sym (from-low 1 (c .before .args .segments) (c .before .args .first) (omega arith))
+returns c = sym (from-low 1 (c .before .before .args .counts .segments) (c .before .before .args .first) (omega arith))
 
 returns-2 : tie.Need-returns-2
-returns-2 c = lt-leb 1 (c .before .args .first) (omega arith) ∙ sym (below-range 1 (c .before .args .segments) (c .before .args .first) (omega arith))
+returns-2 c = lt-leb 1 (c .before .args .first) (omega arith) ∙ sym (below-range 1 (c .before .args .counts .segments) (c .before .args .first) (omega arith))
 
 pub first-allowed-spec : {M : Type 1} → statement M
 first-allowed-spec = tie.close (tie.spec returns returns-2)

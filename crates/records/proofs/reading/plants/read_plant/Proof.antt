@@ -1,175 +1,141 @@
--- `records::reading::plants::read_plant` meets its contract. For each field: how the reader goes on where it is read and allowed.
--- Each return says how far the reader came, and how it ended there. Assumes nothing.
-use Prim.Native.Nat.{ℕ, suc}
-use mathlib.Core.Path.{refl, sym, ap, _∙_}
+-- `records::reading::plants::read_plant` meets its contract: its loop takes the numbers of one record, whose laws hold for any kind. Assumes nothing.
+use Prim.Native.Nat.{_-_}
+use mathlib.Core.Path.{_≡_, refl, sym, ap, _∙_}
 use native.Mathlib.Omega.{arith}
-use lib.ListN.{drop}
+use lib.ListN.{length, take}
+use lib.Seq.{length-take-le}
 use denote.Ref.{now}
-use borrow.Author.Tests.{not-true, not-false, leb-true}
+use borrow.Author.Tests.{not-true, not-false}
 use borrow.Author.Needs.{needs}
-use Rattle.number.proofs.Laws.{bounds}
+use Rattle.fields.specs.declared.reason.Reason.the-variants.{WrongPlant}
+use Rattle.fields.specs.Stages.{readTo, refusedBy}
+use Rattle.fields.proofs.Takes.{value-there, fault-there}
+use Rattle.fields.proofs.OneRecord.{Numbers, none-taken, next-faulty, one-wrong, next-taken, all-taken, all-allowed}
 use Rattle.records.specs.declared.plant.Plant.{Plant}
-use Rattle.records.specs.Run.{run}
-use Rattle.records.specs.Fields.{Reader, needs as wants, Read, read, refused}
-use Rattle.records.specs.Refusals.{wrongPlant}
-use Rattle.records.specs.Ranges.{anyAmount}
-use Rattle.records.specs.Plants.{millionths, firstAllowed, fractionAllowed}
+use Rattle.records.specs.Plants.{plantFields}
 use Rattle.records.specs.Periods.{plant}
-use Rattle.records.proofs.Ranges.{at-most}
-use Rattle.records.proofs.Fields.{Comes, done, goes, fails, stopped, refused-by, comes, got}
+use Rattle.records.proofs.RecordFields.{plantReasons, plant-wants, plant-made, plant-fits}
 use Rattle.records.proofs.reading.plants.read_plant.Statement.{statement}
 use Rattle.records.proofs.reading.plants.read_plant.Tie as tie
 
--- the export is read
-abbrev start-of-exported : tie.After-known-told → tie.Start
-start-of-exported c = c .before .before .before .before .before
+abbrev Inv-loop : tie.InvT-loop
+Inv-loop file counts values₀ at₀ f₀ values at f = Numbers (plant counts) file at₀ plantFields values at f
 
-abbrev value-of-exported : tie.After-known-told → ℕ
-value-of-exported c = c .before .found .given .0 .0
+abbrev μ-loop : tie.MeasureT-loop
+μ-loop file counts values₀ at₀ f₀ values at f = plantFields - f
 
-abbrev after-exported : tie.After-known-told → ℕ
-after-exported c = c .before .found .given .0 .1 .0
+loop-holds : tie.Need-loop-holds Inv-loop μ-loop
+loop-holds c =
+    let a = c .before .args in
+    none-taken (plant (a .counts)) (now (a .file)) (a .start) plantFields _ refl
 
-exported-read :
-    (c : tie.After-known-told) {then : ℕ → Reader Plant} {outcome : Read Plant} →
-    Comes (now (start-of-exported c .args .file)) (then (value-of-exported c)) (suc (start-of-exported c .args .place)) (after-exported c) outcome →
-    Comes (now (start-of-exported c .args .file)) (wants wrongPlant anyAmount then) (start-of-exported c .args .place) (start-of-exported c .args .at) outcome
-exported-read c later = goes (got (c .before .before .before .read-at .ensures) (c .before .found .given .1)) refl later
+take-requires : tie.Need-take-requires Inv-loop μ-loop
+take-requires c κs = search needs
 
--- then the first segment, which is allowed
-abbrev start-of-first : tie.Else1 → tie.Start
-start-of-first c = c .before .before .before .before .before .before .before .before .before .before .before
+enum-known-refusal : tie.Need-enum-known-refusal Inv-loop μ-loop
+enum-known-refusal c = search needs
 
-abbrev value-of-first : tie.Else1 → ℕ
-value-of-first c = c .before .before .before .found2 .given .0 .0
-
-abbrev after-first : tie.Else1 → ℕ
-after-first c = c .before .before .before .found2 .given .0 .1 .0
-
-first-read :
-    (c : tie.Else1) {then : ℕ → Reader Plant} {outcome : Read Plant} →
-    Comes (now (start-of-first c .args .file)) (then (value-of-first c)) (suc (suc (start-of-first c .args .place))) (after-first c) outcome →
-    Comes (now (start-of-first c .args .file)) (wants wrongPlant (firstAllowed (start-of-first c .args .segments)) then) (suc (start-of-first c .args .place)) (after-exported (c .before .before .before .before .before .before)) outcome
-first-read c later = goes (got (c .before .before .before .before .before .read-at2 .ensures) (c .before .before .before .found2 .given .1)) (sym (c .before .first-allowed .ensures) ∙ not-false (c .before .first-allowed .result) (c .if1 .left)) later
-
--- then the origin fraction
-abbrev start-of-fraction : tie.Else2 → tie.Start
-start-of-fraction c = c .before .before .before .before .before .before .before .before .before .before .before .before .before .before .before .before .before
-
-abbrev value-of-fraction : tie.Else2 → ℕ
-value-of-fraction c = c .before .before .before .found3 .given .0 .0
-
-abbrev after-fraction : tie.Else2 → ℕ
-after-fraction c = c .before .before .before .found3 .given .0 .1 .0
-
-fraction-read :
-    (c : tie.Else2) {then : ℕ → Reader Plant} {outcome : Read Plant} →
-    Comes (now (start-of-fraction c .args .file)) (then (value-of-fraction c)) (suc (suc (suc (start-of-fraction c .args .place)))) (after-fraction c) outcome →
-    Comes (now (start-of-fraction c .args .file)) (wants wrongPlant fractionAllowed then) (suc (suc (start-of-fraction c .args .place))) (after-first (c .before .before .before .before .before .before)) outcome
-fraction-read c later = goes (got (c .before .before .before .before .before .read-at3 .ensures) (c .before .before .before .found3 .given .1)) (sym (c .before .fraction-allowed .ensures) ∙ not-false (c .before .fraction-allowed .result) (c .if2 .left)) later
-
-read-at-requires : tie.Need-read-at-requires
-read-at-requires c κs = search needs
-
-enum-known-found : tie.Need-enum-known-found
-enum-known-found c = search needs
-
-of-number-requires : tie.Need-of-number-requires
-of-number-requires c κs = search needs
-
-returns : tie.Need-returns
-unfolding plant
+returns : tie.Need-returns Inv-loop μ-loop
 returns c =
-    refused-by (c .before .before .read-at .result) (c .before .match .keys2) (c .of-number .ensures) refl (comes (now (c .before .before .before .before .args .file)) (stopped (c .before .before .read-at .result) (c .before .match .keys2) (c .before .before .read-at .ensures)))
+    let a = c .before .before .before .before .before .before .before .args in
+    let l = c .before .before .before .before .before .loop in
+    let taken = c .before .before .before .take in
+    let r = c .before .refusal .given in
+    next-faulty (l .inv) (plantReasons (a .counts)) (plant-wants (a .counts)) refl (omega arith) (r .0 .0)
+    (fault-there (now (a .file)) (l .at) (taken .result) (r .0 .0) (taken .ensures) (r .1))
 
-read-at-requires-2 : tie.Need-read-at-requires-2
-read-at-requires-2 c κs = search needs
+enum-known-value : tie.Need-enum-known-value Inv-loop μ-loop
+enum-known-value c = search needs
 
-enum-known-found-2 : tie.Need-enum-known-found-2
-enum-known-found-2 c = search needs
+allows-requires : tie.Need-allows-requires Inv-loop μ-loop
+allows-requires c κs = search needs
 
-add-of-number : tie.Need-add-of-number
-add-of-number c = search needs
+refusal-requires : tie.Need-refusal-requires Inv-loop μ-loop
+refusal-requires c κs = search needs
 
-of-number-requires-2 : tie.Need-of-number-requires-2
-of-number-requires-2 c κs = search needs
-
-returns-2 : tie.Need-returns-2
-unfolding plant
+returns-2 : tie.Need-returns-2 Inv-loop μ-loop
 returns-2 c =
-    refused-by (c .before .before .read-at2 .result) (c .before .match2 .keys2) (c .of-number2 .ensures) (omega arith) (comes (now (c .before .before .before .before .before .before .before .before .args .file)) (exported-read (c .before .before .before) (stopped (c .before .before .read-at2 .result) (c .before .match2 .keys2) (c .before .before .read-at2 .ensures))))
+    let t = c .before in
+    let a = t .before .before .before .before .before .before .before .before .before .args in
+    let l = t .before .before .before .before .before .before .before .loop in
+    let taken = t .before .before .before .before .before .take in
+    let v = t .before .before .before .value .given in
+    let sized : length (take (l .f) (l .values)) ≡ l .f = length-take-le (l .f) (l .values) (omega (arith, l .inv .sized)) in
+    one-wrong (l .inv) WrongPlant (plant-wants (a .counts)) (omega arith) (v .0 .0) (v .0 .1 .0)
+    (value-there (now (a .file)) (l .at) (taken .result) (v .0 .0) (v .0 .1 .0) (taken .ensures) (v .1))
+    (sym (t .before .allows .ensures (take (l .f) (l .values)) sized) ∙ not-true (t .before .allows .result) (t .if1 .taken))
+    ∙ sym (ap refusedBy (c .refusal2 .ensures))
 
-first-allowed-requires : tie.Need-first-allowed-requires
-first-allowed-requires c κs = search needs
+mul-values : tie.Need-mul-values Inv-loop μ-loop
+mul-values c = search needs
 
-add-t19 : tie.Need-add-t19
-add-t19 c = search needs
+array-write-values : tie.Need-array-write-values Inv-loop μ-loop
+array-write-values c = search needs
 
-returns-3 : tie.Need-returns-3
-unfolding plant
-returns-3 c =
-    comes (now (c .before .before .before .before .before .before .before .before .before .before .before .args .file)) (exported-read (c .before .before .before .before .before .before) (fails (got (c .before .before .before .before .before .read-at2 .ensures) (c .before .before .before .found2 .given .1)) (sym (c .before .first-allowed .ensures) ∙ not-true (c .before .first-allowed .result) (c .if1 .taken)))) ∙ ap (refused wrongPlant) (omega arith)
+add-f : tie.Need-add-f Inv-loop μ-loop
+add-f c = search needs
 
-read-at-requires-3 : tie.Need-read-at-requires-3
-read-at-requires-3 c κs = search needs
+loop-less : tie.Need-loop-less Inv-loop μ-loop
+loop-less c = search needs
 
-enum-known-found-3 : tie.Need-enum-known-found-3
-enum-known-found-3 c = search needs
+loop-again : tie.Need-loop-again Inv-loop μ-loop
+loop-again c =
+    let s = c .before .before .before .before .before .before .before .before .before in
+    let a = s .args in
+    let l = c .before .before .before .before .before .before .before .loop in
+    let taken = c .before .before .before .before .before .take in
+    let v = c .before .before .before .value .given in
+    let sized : length (take (l .f) (l .values)) ≡ l .f = length-take-le (l .f) (l .values) (omega (arith, l .inv .sized)) in
+    next-taken (l .inv) (plantReasons (a .counts)) (plant-wants (a .counts)) refl (omega arith) (v .0 .0) (v .0 .1 .0)
+    (value-there (now (a .file)) (l .at) (taken .result) (v .0 .0) (v .0 .1 .0) (taken .ensures) (v .1))
+    (s .pre .1)
+    (sym (c .before .allows .ensures (take (l .f) (l .values)) sized) ∙ not-false (c .before .allows .result) (c .if1 .left))
 
-add-of-number-2 : tie.Need-add-of-number-2
-add-of-number-2 c = search needs
+array-read-new : tie.Need-array-read-new Inv-loop μ-loop
+array-read-new c = search needs
 
-of-number-requires-3 : tie.Need-of-number-requires-3
-of-number-requires-3 c κs = search needs
+array-read-new-2 : tie.Need-array-read-new-2 Inv-loop μ-loop
+array-read-new-2 c = search needs
 
-returns-4 : tie.Need-returns-4
-unfolding plant
-returns-4 c =
-    refused-by (c .before .before .read-at3 .result) (c .before .match3 .keys2) (c .of-number3 .ensures) (omega arith) (comes (now (c .before .before .before .before .before .before .before .before .before .before .before .before .before .before .args .file)) (exported-read (c .before .before .before .before .before .before .before .before .before) (first-read (c .before .before .before) (stopped (c .before .before .read-at3 .result) (c .before .match3 .keys2) (c .before .before .read-at3 .ensures)))))
+array-read-new-3 : tie.Need-array-read-new-3 Inv-loop μ-loop
+array-read-new-3 c = search needs
 
-fraction-allowed-requires : tie.Need-fraction-allowed-requires
-fraction-allowed-requires c κs = search needs
-
-add-t23 : tie.Need-add-t23
-add-t23 c = search needs
-
-returns-5 : tie.Need-returns-5
-unfolding plant
-returns-5 c =
-    comes (now (c .before .before .before .before .before .before .before .before .before .before .before .before .before .before .before .before .before .args .file)) (exported-read (c .before .before .before .before .before .before .before .before .before .before .before .before) (first-read (c .before .before .before .before .before .before) (fails (got (c .before .before .before .before .before .read-at3 .ensures) (c .before .before .before .found3 .given .1)) (sym (c .before .fraction-allowed .ensures) ∙ not-true (c .before .fraction-allowed .result) (c .if2 .taken))))) ∙ ap (refused wrongPlant) (omega arith)
-
-new-requires : tie.Need-new-requires
+new-requires : tie.Need-new-requires Inv-loop μ-loop
 new-requires c κs =
-    (bounds (now (start-of-fraction c .args .file)) (c .before .before .before .before .before .before .before .before .before .before .before .before .before .before .before .before .before .args .at) (value-of-exported (c .before .before .before .before .before .before .before .before .before .before .before .before)) (after-exported (c .before .before .before .before .before .before .before .before .before .before .before .before)) (got (c .before .before .before .before .before .before .before .before .before .before .before .before .before .before .before .read-at .ensures) (c .before .before .before .before .before .before .before .before .before .before .before .before .before .found .given .1)) .small, (let h = at-most 1 (c .before .before .before .before .before .before .before .before .before .before .before .before .before .before .before .before .before .args .segments) (value-of-first (c .before .before .before .before .before .before)) (sym (c .before .before .before .before .before .before .before .first-allowed .ensures) ∙ not-false (c .before .before .before .before .before .before .before .first-allowed .result) (c .before .before .before .before .before .before .if1 .left)) in omega arith), leb-true (value-of-fraction c) millionths (sym (c .before .fraction-allowed .ensures) ∙ not-false (c .before .fraction-allowed .result) (c .if2 .left)))
+    let s = c .before .before .before in
+    let l = c .before .loop in
+    plant-fits (s .args .counts) (l .values) (l .inv .sized) (all-allowed (l .inv) (omega arith)) (s .pre .0)
 
-returns-6 : tie.Need-returns-6
-unfolding plant
-returns-6 c =
-    comes (now (c .before .before .before .before .before .before .before .before .before .before .before .before .before .before .before .before .before .before .args .file)) (exported-read (c .before .before .before .before .before .before .before .before .before .before .before .before .before) (first-read (c .before .before .before .before .before .before .before) (fraction-read (c .before) done))) ∙ ap (λ (x : Plant). read x (suc (suc (suc (c .before .before .before .before .before .before .before .before .before .before .before .before .before .before .before .before .before .before .args .place)))) (run (drop (after-fraction (c .before)) (now (c .before .before .before .before .before .before .before .before .before .before .before .before .before .before .before .before .before .before .args .file))))) (sym (c .new .ensures))
+returns-3 : tie.Need-returns-3 Inv-loop μ-loop
+returns-3 c =
+    let a = c .before .before .before .before .args in
+    let l = c .before .before .loop in
+    let made = plant-made (a .counts) (l .values) (l .inv .sized) in (
+      all-taken (l .inv) _ (omega arith) made ∙ ap (λ (x : Plant). readTo (now (a .file)) x (l .at)) (sym (c .new .ensures)),
+      omega (arith, l .inv .place-is, l .inv .within),
+    )
 
 pub read-plant-spec : {M : Type 1} → statement M
 read-plant-spec =
     tie.close
     (tie.spec
-    read-at-requires
-    enum-known-found
-    of-number-requires
+    Inv-loop
+    μ-loop
+    loop-holds
+    take-requires
+    enum-known-refusal
     returns
-    read-at-requires-2
-    enum-known-found-2
-    add-of-number
-    of-number-requires-2
+    enum-known-value
+    allows-requires
+    refusal-requires
     returns-2
-    first-allowed-requires
-    add-t19
-    returns-3
-    read-at-requires-3
-    enum-known-found-3
-    add-of-number-2
-    of-number-requires-3
-    returns-4
-    fraction-allowed-requires
-    add-t23
-    returns-5
+    mul-values
+    array-write-values
+    add-f
+    loop-less
+    loop-again
+    array-read-new
+    array-read-new-2
+    array-read-new-3
     new-requires
-    returns-6)
+    returns-3)

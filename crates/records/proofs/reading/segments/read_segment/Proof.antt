@@ -1,171 +1,137 @@
--- `records::reading::segments::read_segment` meets its contract. For each field: how the reader goes on where it is read and allowed.
--- Each return says how far the reader came, and how it ended there. Assumes nothing.
-use Prim.Native.Nat.{ℕ, suc}
+-- `records::reading::segments::read_segment` meets its contract: its loop takes the numbers of one record, whose laws hold for any kind. Assumes nothing.
+use Prim.Native.Nat.{_-_}
 use mathlib.Core.Path.{refl, sym, ap, _∙_}
 use native.Mathlib.Omega.{arith}
-use lib.ListN.{drop}
 use denote.Ref.{now}
 use borrow.Author.Tests.{not-true, not-false}
 use borrow.Author.Needs.{needs}
-use Rattle.number.proofs.Laws.{bounds}
+use Rattle.fields.specs.declared.reason.Reason.the-variants.{WrongSegment}
+use Rattle.fields.specs.Stages.{readTo, refusedBy}
+use Rattle.fields.proofs.Takes.{value-there, fault-there}
+use Rattle.fields.proofs.OneRecord.{Numbers, none-taken, next-faulty, one-wrong, next-taken, all-taken, all-allowed}
 use Rattle.records.specs.declared.segment.Segment.{Segment}
-use Rattle.records.specs.Run.{run}
-use Rattle.records.specs.Fields.{Reader, needs as wants, Read, read, refused}
-use Rattle.records.specs.Refusals.{wrongSegment}
-use Rattle.records.specs.Ranges.{anyAmount}
-use Rattle.records.specs.Segments.{pipeline, store, kindAllowed, nextAllowed}
+use Rattle.records.specs.Segments.{segmentFields}
 use Rattle.records.specs.Periods.{segment}
-use Rattle.records.proofs.Ranges.{at-most, next-at-most}
-use Rattle.records.proofs.Fields.{Comes, done, goes, fails, stopped, refused-by, comes, got}
+use Rattle.records.proofs.RecordFields.{segmentReasons, segment-wants, segment-made, segment-fits}
 use Rattle.records.proofs.reading.segments.read_segment.Statement.{statement}
 use Rattle.records.proofs.reading.segments.read_segment.Tie as tie
 
--- the kind is read and allowed
-abbrev start-of-kind : tie.Else1 → tie.Start
-start-of-kind c = c .before .before .before .before .before .before .before
+abbrev Inv-loop : tie.InvT-loop
+Inv-loop file own counts values₀ at₀ f₀ values at f = Numbers (segment counts own) file at₀ segmentFields values at f
 
-abbrev value-of-kind : tie.Else1 → ℕ
-value-of-kind c = c .before .before .before .found .given .0 .0
+abbrev μ-loop : tie.MeasureT-loop
+μ-loop file own counts values₀ at₀ f₀ values at f = segmentFields - f
 
-abbrev after-kind : tie.Else1 → ℕ
-after-kind c = c .before .before .before .found .given .0 .1 .0
+loop-holds : tie.Need-loop-holds Inv-loop μ-loop
+loop-holds c =
+    let a = c .before .args in
+    none-taken (segment (a .counts) (a .own)) (now (a .file)) (a .start) segmentFields _ refl
 
-kind-read :
-    (c : tie.Else1) {then : ℕ → Reader Segment} {outcome : Read Segment} →
-    Comes (now (start-of-kind c .args .file)) (then (value-of-kind c)) (suc (start-of-kind c .args .place)) (after-kind c) outcome →
-    Comes (now (start-of-kind c .args .file)) (wants wrongSegment kindAllowed then) (start-of-kind c .args .place) (start-of-kind c .args .at) outcome
-kind-read c later = goes (got (c .before .before .before .before .before .read-at .ensures) (c .before .before .before .found .given .1)) (sym (c .before .kind-allowed .ensures) ∙ not-false (c .before .kind-allowed .result) (c .if1 .left)) later
+take-requires : tie.Need-take-requires Inv-loop μ-loop
+take-requires c κs = search needs
 
--- then the outflow
-abbrev start-of-outflow : tie.After-known-told2 → tie.Start
-start-of-outflow c = c .before .before .before .before .before .before .before .before .before .before .before
+enum-known-refusal : tie.Need-enum-known-refusal Inv-loop μ-loop
+enum-known-refusal c = search needs
 
-abbrev value-of-outflow : tie.After-known-told2 → ℕ
-value-of-outflow c = c .before .found2 .given .0 .0
-
-abbrev after-outflow : tie.After-known-told2 → ℕ
-after-outflow c = c .before .found2 .given .0 .1 .0
-
-outflow-read :
-    (c : tie.After-known-told2) {then : ℕ → Reader Segment} {outcome : Read Segment} →
-    Comes (now (start-of-outflow c .args .file)) (then (value-of-outflow c)) (suc (suc (start-of-outflow c .args .place))) (after-outflow c) outcome →
-    Comes (now (start-of-outflow c .args .file)) (wants wrongSegment anyAmount then) (suc (start-of-outflow c .args .place)) (after-kind (c .before .before .before .before)) outcome
-outflow-read c later = goes (got (c .before .before .before .read-at2 .ensures) (c .before .found2 .given .1)) refl later
-
--- then the next segment, which is allowed
-abbrev start-of-next : tie.Else2 → tie.Start
-start-of-next c = c .before .before .before .before .before .before .before .before .before .before .before .before .before .before .before .before .before
-
-abbrev value-of-next : tie.Else2 → ℕ
-value-of-next c = c .before .before .before .found3 .given .0 .0
-
-abbrev after-next : tie.Else2 → ℕ
-after-next c = c .before .before .before .found3 .given .0 .1 .0
-
-next-read :
-    (c : tie.Else2) {then : ℕ → Reader Segment} {outcome : Read Segment} →
-    Comes (now (start-of-next c .args .file)) (then (value-of-next c)) (suc (suc (suc (start-of-next c .args .place)))) (after-next c) outcome →
-    Comes (now (start-of-next c .args .file)) (wants wrongSegment (nextAllowed (start-of-next c .args .segments) (start-of-next c .args .own) (value-of-kind (c .before .before .before .before .before .before .before .before .before .before))) then) (suc (suc (start-of-next c .args .place))) (after-outflow (c .before .before .before .before .before .before)) outcome
-next-read c later = goes (got (c .before .before .before .before .before .read-at3 .ensures) (c .before .before .before .found3 .given .1)) (sym (c .before .next-allowed .ensures) ∙ not-false (c .before .next-allowed .result) (c .if2 .left)) later
-
-read-at-requires : tie.Need-read-at-requires
-read-at-requires c κs = search needs
-
-enum-known-found : tie.Need-enum-known-found
-enum-known-found c = search needs
-
-of-number-requires : tie.Need-of-number-requires
-of-number-requires c κs = search needs
-
-returns : tie.Need-returns
-unfolding segment
+returns : tie.Need-returns Inv-loop μ-loop
 returns c =
-    refused-by (c .before .before .read-at .result) (c .before .match .keys2) (c .of-number .ensures) refl (comes (now (c .before .before .before .before .args .file)) (stopped (c .before .before .read-at .result) (c .before .match .keys2) (c .before .before .read-at .ensures)))
+    let a = c .before .before .before .before .before .before .before .args in
+    let l = c .before .before .before .before .before .loop in
+    let taken = c .before .before .before .take in
+    let r = c .before .refusal .given in
+    next-faulty (l .inv) (segmentReasons (a .counts) (a .own)) (segment-wants (a .counts) (a .own)) refl (omega arith) (r .0 .0)
+    (fault-there (now (a .file)) (l .at) (taken .result) (r .0 .0) (taken .ensures) (r .1))
 
-kind-allowed-requires : tie.Need-kind-allowed-requires
-kind-allowed-requires c κs = search needs
+enum-known-value : tie.Need-enum-known-value Inv-loop μ-loop
+enum-known-value c = search needs
 
-returns-2 : tie.Need-returns-2
-unfolding segment
+allows-requires : tie.Need-allows-requires Inv-loop μ-loop
+allows-requires c κs = search needs
+
+refusal-requires : tie.Need-refusal-requires Inv-loop μ-loop
+refusal-requires c κs = search needs
+
+returns-2 : tie.Need-returns-2 Inv-loop μ-loop
 returns-2 c =
-    comes (now (c .before .before .before .before .before .before .before .args .file)) (fails (got (c .before .before .before .before .before .read-at .ensures) (c .before .before .before .found .given .1)) (sym (c .before .kind-allowed .ensures) ∙ not-true (c .before .kind-allowed .result) (c .if1 .taken)))
+    let t = c .before in
+    let a = t .before .before .before .before .before .before .before .before .before .args in
+    let l = t .before .before .before .before .before .before .before .loop in
+    let taken = t .before .before .before .before .before .take in
+    let v = t .before .before .before .value .given in
+    one-wrong (l .inv) WrongSegment (segment-wants (a .counts) (a .own)) (omega arith) (v .0 .0) (v .0 .1 .0)
+    (value-there (now (a .file)) (l .at) (taken .result) (v .0 .0) (v .0 .1 .0) (taken .ensures) (v .1))
+    (sym (t .before .allows .ensures) ∙ not-true (t .before .allows .result) (t .if1 .taken))
+    ∙ sym (ap refusedBy (c .refusal2 .ensures))
 
-read-at-requires-2 : tie.Need-read-at-requires-2
-read-at-requires-2 c κs = search needs
+mul-values : tie.Need-mul-values Inv-loop μ-loop
+mul-values c = search needs
 
-enum-known-found-2 : tie.Need-enum-known-found-2
-enum-known-found-2 c = search needs
+array-write-values : tie.Need-array-write-values Inv-loop μ-loop
+array-write-values c = search needs
 
-add-of-number : tie.Need-add-of-number
-add-of-number c = search needs
+add-f : tie.Need-add-f Inv-loop μ-loop
+add-f c = search needs
 
-of-number-requires-2 : tie.Need-of-number-requires-2
-of-number-requires-2 c κs = search needs
+loop-less : tie.Need-loop-less Inv-loop μ-loop
+loop-less c = search needs
 
-returns-3 : tie.Need-returns-3
-unfolding segment
-returns-3 c =
-    refused-by (c .before .before .read-at2 .result) (c .before .match2 .keys2) (c .of-number2 .ensures) (omega arith) (comes (now (c .before .before .before .before .before .before .before .before .before .before .args .file)) (kind-read (c .before .before .before) (stopped (c .before .before .read-at2 .result) (c .before .match2 .keys2) (c .before .before .read-at2 .ensures))))
+loop-again : tie.Need-loop-again Inv-loop μ-loop
+loop-again c =
+    let s = c .before .before .before .before .before .before .before .before .before in
+    let a = s .args in
+    let l = c .before .before .before .before .before .before .before .loop in
+    let taken = c .before .before .before .before .before .take in
+    let v = c .before .before .before .value .given in
+    next-taken (l .inv) (segmentReasons (a .counts) (a .own)) (segment-wants (a .counts) (a .own)) refl (omega arith) (v .0 .0) (v .0 .1 .0)
+    (value-there (now (a .file)) (l .at) (taken .result) (v .0 .0) (v .0 .1 .0) (taken .ensures) (v .1))
+    (s .pre .1)
+    (sym (c .before .allows .ensures) ∙ not-false (c .before .allows .result) (c .if1 .left))
 
-read-at-requires-3 : tie.Need-read-at-requires-3
-read-at-requires-3 c κs = search needs
+array-read-new : tie.Need-array-read-new Inv-loop μ-loop
+array-read-new c = search needs
 
-enum-known-found-3 : tie.Need-enum-known-found-3
-enum-known-found-3 c = search needs
+array-read-new-2 : tie.Need-array-read-new-2 Inv-loop μ-loop
+array-read-new-2 c = search needs
 
-add-of-number-2 : tie.Need-add-of-number-2
-add-of-number-2 c = search needs
+array-read-new-3 : tie.Need-array-read-new-3 Inv-loop μ-loop
+array-read-new-3 c = search needs
 
-of-number-requires-3 : tie.Need-of-number-requires-3
-of-number-requires-3 c κs = search needs
-
-returns-4 : tie.Need-returns-4
-unfolding segment
-returns-4 c =
-    refused-by (c .before .before .read-at3 .result) (c .before .match3 .keys2) (c .of-number3 .ensures) (omega arith) (comes (now (c .before .before .before .before .before .before .before .before .before .before .before .before .before .before .args .file)) (kind-read (c .before .before .before .before .before .before .before) (outflow-read (c .before .before .before) (stopped (c .before .before .read-at3 .result) (c .before .match3 .keys2) (c .before .before .read-at3 .ensures)))))
-
-next-allowed-requires : tie.Need-next-allowed-requires
-next-allowed-requires c κs = search needs
-
-add-t23 : tie.Need-add-t23
-add-t23 c = search needs
-
-returns-5 : tie.Need-returns-5
-unfolding segment
-returns-5 c =
-    comes (now (c .before .before .before .before .before .before .before .before .before .before .before .before .before .before .before .before .before .args .file)) (kind-read (c .before .before .before .before .before .before .before .before .before .before) (outflow-read (c .before .before .before .before .before .before) (fails (got (c .before .before .before .before .before .read-at3 .ensures) (c .before .before .before .found3 .given .1)) (sym (c .before .next-allowed .ensures) ∙ not-true (c .before .next-allowed .result) (c .if2 .taken))))) ∙ ap (refused wrongSegment) (omega arith)
-
-new-requires : tie.Need-new-requires
+new-requires : tie.Need-new-requires Inv-loop μ-loop
 new-requires c κs =
-    (at-most pipeline store (value-of-kind (c .before .before .before .before .before .before .before .before .before .before)) (sym (c .before .before .before .before .before .before .before .before .before .before .before .kind-allowed .ensures) ∙ not-false (c .before .before .before .before .before .before .before .before .before .before .before .kind-allowed .result) (c .before .before .before .before .before .before .before .before .before .before .if1 .left)), bounds (now (start-of-next c .args .file)) (after-kind (c .before .before .before .before .before .before .before .before .before .before)) (value-of-outflow (c .before .before .before .before .before .before)) (after-outflow (c .before .before .before .before .before .before)) (got (c .before .before .before .before .before .before .before .before .before .read-at2 .ensures) (c .before .before .before .before .before .before .before .found2 .given .1)) .small, (let h = next-at-most (c .before .before .before .before .before .before .before .before .before .before .before .before .before .before .before .before .before .args .segments) (c .before .before .before .before .before .before .before .before .before .before .before .before .before .before .before .before .before .args .own) (value-of-kind (c .before .before .before .before .before .before .before .before .before .before)) (value-of-next c) (sym (c .before .next-allowed .ensures) ∙ not-false (c .before .next-allowed .result) (c .if2 .left)) in omega arith))
+    let s = c .before .before .before in
+    let l = c .before .loop in
+    segment-fits (s .args .counts) (s .args .own) (l .values) (l .inv .sized) (all-allowed (l .inv) (omega arith)) (s .pre .0)
 
-returns-6 : tie.Need-returns-6
-unfolding segment
-returns-6 c =
-    comes (now (c .before .before .before .before .before .before .before .before .before .before .before .before .before .before .before .before .before .before .args .file)) (kind-read (c .before .before .before .before .before .before .before .before .before .before .before) (outflow-read (c .before .before .before .before .before .before .before) (next-read (c .before) done))) ∙ ap (λ (x : Segment). read x (suc (suc (suc (c .before .before .before .before .before .before .before .before .before .before .before .before .before .before .before .before .before .before .args .place)))) (run (drop (after-next (c .before)) (now (c .before .before .before .before .before .before .before .before .before .before .before .before .before .before .before .before .before .before .args .file))))) (sym (c .new .ensures))
+returns-3 : tie.Need-returns-3 Inv-loop μ-loop
+returns-3 c =
+    let a = c .before .before .before .before .args in
+    let l = c .before .before .loop in
+    let made = segment-made (a .counts) (a .own) (l .values) (l .inv .sized) in (
+      all-taken (l .inv) _ (omega arith) made ∙ ap (λ (x : Segment). readTo (now (a .file)) x (l .at)) (sym (c .new .ensures)),
+      omega (arith, l .inv .place-is, l .inv .within),
+    )
 
 pub read-segment-spec : {M : Type 1} → statement M
 read-segment-spec =
     tie.close
     (tie.spec
-    read-at-requires
-    enum-known-found
-    of-number-requires
+    Inv-loop
+    μ-loop
+    loop-holds
+    take-requires
+    enum-known-refusal
     returns
-    kind-allowed-requires
+    enum-known-value
+    allows-requires
+    refusal-requires
     returns-2
-    read-at-requires-2
-    enum-known-found-2
-    add-of-number
-    of-number-requires-2
-    returns-3
-    read-at-requires-3
-    enum-known-found-3
-    add-of-number-2
-    of-number-requires-3
-    returns-4
-    next-allowed-requires
-    add-t23
-    returns-5
+    mul-values
+    array-write-values
+    add-f
+    loop-less
+    loop-again
+    array-read-new
+    array-read-new-2
+    array-read-new-3
     new-requires
-    returns-6)
+    returns-3)

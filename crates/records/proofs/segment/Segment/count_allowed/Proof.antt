@@ -3,7 +3,7 @@ use mathlib.Core.Path.{sym, _∙_}
 use native.Mathlib.Omega.{arith}
 use borrow.Author.Tests.{lt-leb}
 use Rattle.records.specs.Segments.{mostSegments}
-use Rattle.records.proofs.Ranges.{from-low, below-range}
+use Rattle.records.proofs.FieldRanges.{from-low, below-range}
 use Rattle.records.proofs.segment.Segment.count_allowed.Statement.{statement}
 use Rattle.records.proofs.segment.Segment.count_allowed.Tie as tie
 

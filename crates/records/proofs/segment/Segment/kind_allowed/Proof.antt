@@ -2,7 +2,7 @@
 use mathlib.Core.Path.{sym}
 use native.Mathlib.Omega.{arith}
 use Rattle.records.specs.Segments.{pipeline, store}
-use Rattle.records.proofs.Ranges.{in-range, below-range, above-range}
+use Rattle.records.proofs.FieldRanges.{in-range, below-range, above-range}
 use Rattle.records.proofs.segment.Segment.kind_allowed.Statement.{statement}
 use Rattle.records.proofs.segment.Segment.kind_allowed.Tie as tie
 

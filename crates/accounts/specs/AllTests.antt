@@ -1,0 +1,157 @@
+-- "Numbers of refusal" and "Order" once more, without a reader of fields: every test of a file at its place, in order. A test looks up in the
+-- file the numbers that it needs; what a number is, and which of the faults 1, 2 and 3 it has, the number layer says (`readAt`).
+-- `proofs/Order.antt` shows that the answer is that of the first test that fails.
+use Prim.Native.Nat.{ℕ, zero, suc, _+_, _*_}
+use mathlib.Core.Bool.{Bool, false, not}
+use mathlib.Core.List.{List, [], _∷_, _++_}
+use lib.ListN.{length}
+use lib.Dec.{ltb, eqb}
+use Rattle.number.specs.Reading.{Found}
+use Rattle.number.specs.Reading.Found.{number as oneNumber, fault as oneFault}
+use Rattle.number.specs.Counting.{startOf, numberAt, valueAt}
+use Rattle.fields.specs.declared.reason.Reason.{Reason}
+use Rattle.fields.specs.declared.reason.Reason.the-variants.{Ends, NotShortest, TooLarge, WrongEdition, WrongCount, WrongPlant, WrongSegment, WrongLine, BytesAfter}
+use Rattle.fields.specs.Reasons.{numberOf}
+use Rattle.records.specs.declared.counts.Counts.{Counts}
+use Rattle.records.specs.declared.plant.Plant.{Plant}
+use Rattle.records.specs.declared.segment.Segment.{Segment}
+use Rattle.records.specs.declared.line.Line.{Line}
+use Rattle.records.specs.Plants.{plantFields, plantsAllowed, firstAllowed, fractionAllowed, plantOf}
+use Rattle.records.specs.Segments.{segmentFields, segmentsAllowed, kindAllowed, nextAllowed, segmentOf}
+use Rattle.records.specs.Classes.{classAllowed}
+use Rattle.records.specs.Lines.{lineFields, linesAllowed, ownerKindAllowed, ownerAllowed, factorAllowed, lineOf}
+use Rattle.records.specs.Headers.{edition, announced, headerFields}
+use Rattle.records.specs.Periods.{Period}
+use Rattle.accounts.specs.Order.{Test, lineTests, segmentTests, tableTests}
+use Rattle.accounts.specs.Quantified.{accountsOf}
+
+-- ---- where the records stand: a header, and then P plants, S segments and L lines
+unfoldable pub countsAt : List ℕ → Counts
+countsAt file = announced (valueAt file 1) (valueAt file 2) (valueAt file 3)
+
+-- the first number of a plant, a segment and a line, each at an index from 0
+abbrev pub plantPlace : ℕ → ℕ
+plantPlace index = headerFields + plantFields * index
+
+abbrev pub segmentPlace : Counts → ℕ → ℕ
+segmentPlace counts index = plantPlace (counts .plants) + segmentFields * index
+
+abbrev pub linePlace : Counts → ℕ → ℕ
+linePlace counts index = segmentPlace counts (counts .segments) + lineFields * index
+
+-- how many numbers there have to be
+abbrev pub numberCount : Counts → ℕ
+numberCount counts = linePlace counts (counts .lines)
+
+-- ---- the records, by the numbers at their places
+abbrev pub plantAt : List ℕ → ℕ → Plant
+plantAt file index =
+    let k = plantPlace index in
+    plantOf (valueAt file k) (valueAt file (1 + k)) (valueAt file (2 + k))
+
+abbrev pub segmentAt : List ℕ → ℕ → Segment
+segmentAt file index =
+    let k = segmentPlace (countsAt file) index in
+    segmentOf (valueAt file k) (valueAt file (1 + k)) (valueAt file (2 + k))
+
+abbrev pub lineAt : List ℕ → ℕ → Line
+lineAt file index =
+    let k = linePlace (countsAt file) index in
+    lineOf (valueAt file k) (valueAt file (1 + k)) (valueAt file (2 + k)) (valueAt file (3 + k)) (valueAt file (4 + k))
+
+-- what stands at so many indices from one on
+unfoldable pub listed : {A : Type 0} → (ℕ → A) → (from count : ℕ) → List A
+listed at from zero = []
+listed at from (suc count) = at from ∷ listed at (suc from) count
+
+-- the period that these records make
+unfoldable pub periodAt : List ℕ → Period
+periodAt file = record {
+  plants = listed (plantAt file) 0 (countsAt file .plants);
+  segments = listed (segmentAt file) 0 (countsAt file .segments);
+  lines = listed (lineAt file) 0 (countsAt file .lines);
+}
+
+-- ---- the tests
+-- 1: "file ends inside a number or where one is needed"; 2: "number not in shortest form"; 3: "fifth group says more follow, or value over
+-- 4,000,000,000". A number has at most one fault.
+abbrev pub isFault : Reason → Found → Bool
+isFault reason (oneNumber value next) = false
+isFault reason (oneFault found) = eqb found (numberOf reason)
+
+-- the test of number k for one of them
+abbrev pub faultTest : Reason → List ℕ → ℕ → Test
+faultTest reason file k = record { fails = isFault reason (numberAt file k); reason = reason; place = k }
+
+-- for all three, in 01's order
+abbrev pub numberTests : List ℕ → ℕ → List Test
+numberTests file k = faultTest Ends file k ∷ faultTest NotShortest file k ∷ faultTest TooLarge file k ∷ []
+
+-- "then for its own field"
+abbrev pub fieldTests : Reason → (ℕ → Bool) → List ℕ → ℕ → List Test
+fieldTests reason allowed file k = numberTests file k ++ record { fails = not (allowed (valueAt file k)); reason = reason; place = k } ∷ []
+
+-- 4: "edition is not 1"; 5: "P, S or L outside its range"
+unfoldable pub headerTests : List ℕ → List Test
+headerTests file =
+    fieldTests WrongEdition (eqb edition) file 0
+    ++ (fieldTests WrongCount plantsAllowed file 1
+    ++ (fieldTests WrongCount segmentsAllowed file 2
+    ++ fieldTests WrongCount linesAllowed file 3))
+
+-- 6: "plant field outside its range"
+unfoldable pub plantTests : List ℕ → ℕ → List Test
+plantTests file index =
+    let k = plantPlace index in
+    numberTests file k
+    ++ (fieldTests WrongPlant (firstAllowed (countsAt file)) file (1 + k)
+    ++ fieldTests WrongPlant fractionAllowed file (2 + k))
+
+-- 7: "kind or next segment not allowed"
+unfoldable pub segmentFieldTests : List ℕ → ℕ → List Test
+segmentFieldTests file index =
+    let k = segmentPlace (countsAt file) index in
+    fieldTests WrongSegment kindAllowed file k
+    ++ (numberTests file (1 + k)
+    ++ fieldTests WrongSegment (nextAllowed (countsAt file) (suc index) (valueAt file k)) file (2 + k))
+
+-- 8: "line field not allowed"
+unfoldable pub lineFieldTests : List ℕ → ℕ → List Test
+lineFieldTests file index =
+    let k = linePlace (countsAt file) index in
+    fieldTests WrongLine ownerKindAllowed file k
+    ++ (fieldTests WrongLine (ownerAllowed (countsAt file) (valueAt file k)) file (1 + k)
+    ++ (fieldTests WrongLine (classAllowed (valueAt file k)) file (2 + k)
+    ++ (numberTests file (3 + k)
+    ++ fieldTests WrongLine factorAllowed file (4 + k))))
+
+-- 9: "bytes after the last number", whose place is the count of numbers
+abbrev pub endTest : List ℕ → Test
+endTest file =
+    let count = numberCount (countsAt file) in
+    record { fails = ltb (startOf file count) (length file); reason = BytesAfter; place = count }
+
+-- the tests of so many records, one after another, from an index on
+unfoldable pub testsOfEach : (ℕ → List Test) → (from count : ℕ) → List Test
+testsOfEach tests from zero = []
+testsOfEach tests from (suc count) = tests from ++ testsOfEach tests (suc from) count
+
+-- "the file is read front to back .. Then 9."
+unfoldable pub readingTests : List ℕ → List Test
+readingTests file =
+    let counts = countsAt file in
+    headerTests file
+    ++ (testsOfEach (plantTests file) 0 (counts .plants)
+    ++ (testsOfEach (segmentFieldTests file) 0 (counts .segments)
+    ++ (testsOfEach (lineFieldTests file) 0 (counts .lines)
+    ++ endTest file ∷ [])))
+
+-- "Then 10 over the lines in file order. Then for each segment in rising number 11, 12, 13. Then 14, then 15.": all tests of a file, with
+-- tables of so many numbers
+unfoldable pub allTests : List ℕ → (plantTable segmentTable : ℕ) → List Test
+allTests file plantTable segmentTable =
+    let period = periodAt file in
+    readingTests file
+    ++ (lineTests (period .lines) 0 (period .lines)
+    ++ (segmentTests (accountsOf period)
+    ++ tableTests (countsAt file) plantTable segmentTable))

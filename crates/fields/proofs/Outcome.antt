@@ -1,0 +1,90 @@
+-- No two outcomes meet a promise of this crate: what an answer says in 01's terms determines the answer.
+use Prim.Native.Nat.{ℕ}
+use mathlib.Core.Path.{_≡_, refl, sym, ap, ap₂, _∙_}
+use mathlib.Core.Bool.{true≢false}
+use mathlib.Core.List.{List, [], _∷_}
+use lib.ListN.{getD}
+use Rattle.fields.specs.declared.answer.Answer.{Answer}
+use Rattle.fields.specs.declared.answer.Answer.the-variants.{Accepted, Refused}
+use Rattle.fields.specs.declared.answer.Refusal.{Refusal}
+use Rattle.fields.specs.declared.reason.Reason.{Reason}
+use Rattle.fields.specs.declared.reason.Reason.the-variants.{Ends, NotShortest, TooLarge, WrongEdition, WrongCount, WrongPlant, WrongSegment, WrongLine, BytesAfter, TooManyGrams, InflowTooLarge, OutflowOverInflow, EmissionWithoutInflow, PlantTableShort, SegmentTableShort}
+use Rattle.fields.specs.declared.spot.Spot.{Spot}
+use Rattle.fields.specs.declared.taking.Taken.{Taken}
+use Rattle.fields.specs.declared.taking.Taken.the-variants as Taken
+use Rattle.fields.specs.Reasons.{numberOf}
+use Rattle.fields.specs.Answers.{refusedFor, said, refusalNumber, refusalPlace}
+use Rattle.fields.specs.Spots.{firstSpot, refusalAt, took, takeAt, endAt}
+
+-- ---- each number has one reason
+-- the reasons by their numbers, from 0, which none has
+numbered : List Reason
+numbered =
+    Ends
+    ∷ Ends ∷ NotShortest ∷ TooLarge ∷ WrongEdition ∷ WrongCount ∷ WrongPlant ∷ WrongSegment ∷ WrongLine ∷ BytesAfter
+    ∷ TooManyGrams ∷ InflowTooLarge ∷ OutflowOverInflow ∷ EmissionWithoutInflow ∷ PlantTableShort ∷ SegmentTableShort ∷ []
+
+reason-back : (reason : Reason) → getD numbered (numberOf reason) Ends ≡ reason
+unfolding numbered
+reason-back Ends = refl
+reason-back NotShortest = refl
+reason-back TooLarge = refl
+reason-back WrongEdition = refl
+reason-back WrongCount = refl
+reason-back WrongPlant = refl
+reason-back WrongSegment = refl
+reason-back WrongLine = refl
+reason-back BytesAfter = refl
+reason-back TooManyGrams = refl
+reason-back InflowTooLarge = refl
+reason-back OutflowOverInflow = refl
+reason-back EmissionWithoutInflow = refl
+reason-back PlantTableShort = refl
+reason-back SegmentTableShort = refl
+
+pub numbered-once : (a b : Reason) → numberOf a ≡ numberOf b → a ≡ b
+numbered-once a b e = sym (reason-back a) ∙ ap (λ (n : ℕ). getD numbered n Ends) e ∙ reason-back b
+
+-- ---- so two refusals, two answers or two takings that say the same are the same
+refusal-once : (a b : Refusal) → numberOf (a .reason) ≡ numberOf (b .reason) → a .place ≡ b .place → a ≡ b
+refusal-once a b number place = ap₂ (λ (r : Reason) (p : ℕ). record { reason = r; place = p }) (numbered-once (a .reason) (b .reason) number) place
+
+pub said-once : (a b : Answer) → said a ≡ said b → a ≡ b
+said-once Accepted Accepted e = refl
+said-once Accepted (Refused b) e = absurd (true≢false (cc))
+said-once (Refused a) Accepted e = absurd (true≢false (cc))
+said-once (Refused a) (Refused b) e = ap Refused (refusal-once a b (cc) (cc))
+
+pub took-once : (a b : Taken) → took a ≡ took b → a ≡ b
+took-once (Taken.Value v next) (Taken.Value w next') e = ap₂ Taken.Value (cc) (cc)
+took-once (Taken.Value v next) (Taken.Refused b) e = absurd (true≢false (cc))
+took-once (Taken.Refused a) (Taken.Value w next') e = absurd (true≢false (cc))
+took-once (Taken.Refused a) (Taken.Refused b) e = ap Taken.Refused (refusal-once a b (cc) (cc))
+
+-- ---- the public functions
+-- `take`: two answers that meet its promise, of one file at one spot, are the same
+pub one-taken : (file : List ℕ) (at : Spot) (r s : Taken) → took r ≡ takeAt file at → took s ≡ takeAt file at → r ≡ s
+one-taken file at r s p q = took-once r s (p ∙ sym q)
+
+-- `nothing_after`: so are two of its answers
+pub one-end : (file : List ℕ) (at : Spot) (r s : Answer) → said r ≡ endAt file at → said s ≡ endAt file at → r ≡ s
+one-end file at r s p q = said-once r s (p ∙ sym q)
+
+-- `Reason::number`, `Answer::refused`, `Answer::refusal`, `Answer::place`, `Spot::first` and `Spot::refusal`: their promises give the result itself
+pub one-number : (reason : Reason) (r s : ℕ) → r ≡ numberOf reason → s ≡ numberOf reason → r ≡ s
+one-number reason r s p q = p ∙ sym q
+
+pub one-refused : (reason : Reason) (place : ℕ) (r s : Answer) → r ≡ refusedFor reason place → s ≡ refusedFor reason place → r ≡ s
+one-refused reason place r s p q = p ∙ sym q
+
+pub one-refusal : (answer : Answer) (r s : ℕ) → r ≡ refusalNumber (said answer) → s ≡ refusalNumber (said answer) → r ≡ s
+one-refusal answer r s p q = p ∙ sym q
+
+pub one-place : (answer : Answer) (r s : ℕ) → r ≡ refusalPlace (said answer) → s ≡ refusalPlace (said answer) → r ≡ s
+one-place answer r s p q = p ∙ sym q
+
+pub one-first : (r s : Spot) → r ≡ firstSpot → s ≡ firstSpot → r ≡ s
+one-first r s p q = p ∙ sym q
+
+pub one-refusal-at : (at : Spot) (reason : Reason) (r s : Refusal) → r ≡ refusalAt at reason → s ≡ refusalAt at reason → r ≡ s
+one-refusal-at at reason r s p q = p ∙ sym q

@@ -1,0 +1,15 @@
+-- The definitions for files of numbers, lowest first.
+
+-- the reasons to refuse, and what an answer says
+pub mod Reasons
+pub mod Answers
+-- the file: a run of numbers, read front to back, field by field
+pub mod Ranges
+pub mod Run
+pub mod Readers
+pub mod Files
+-- a spot in it, and what is taken there
+pub mod Spots
+-- lists of records, and stages that read them
+pub mod Lists
+pub mod Stages

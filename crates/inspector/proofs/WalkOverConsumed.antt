@@ -1,0 +1,104 @@
+-- The walk over the numbers that the period's reading takes, and how that reading ends: by one induction along a reader of fields.
+use Prim.Native.Nat.{ℕ, suc, _+_, _≤_, _<_}
+use mathlib.Core.Path.{_≡_, refl}
+use mathlib.Core.List.{List, [], _∷_}
+use native.Mathlib.Decide.{decLe}
+use native.Mathlib.Omega.{arith}
+use lib.ListN.{length, drop}
+use denote.Ref.{RefT, now}
+use Rattle.number.specs.Reading.{number as oneNumber, fault as oneFault}
+use Rattle.number.specs.Counting.{startOf, numberAt}
+use Rattle.number.proofs.Counting.{first-start, next-start}
+use Rattle.fields.specs.declared.reason.Reason.the-variants.{WrongEdition, WrongLine, BytesAfter}
+use Rattle.fields.specs.Run.{Run, over, run}
+use Rattle.fields.specs.Readers.{Reader, needs, Read, read, refused, consumes}
+use Rattle.fields.specs.Files.{ended}
+use Rattle.fields.specs.Reasons.{numberOf}
+use Rattle.fields.proofs.Runs.{Faulty, ended as at-end, faulty, number-at, fault-at}
+use Rattle.fields.proofs.FieldByField.{Comes, done as to-end, goes, fails, stops, goes-over}
+use Rattle.fields.proofs.Along.{Along, done, needed}
+use Rattle.fields.proofs.EndOfFile.{more-left, none-left}
+use Rattle.records.specs.Periods.{period, periodFile}
+use Rattle.records.specs.Numbers.{consumed}
+use Rattle.records.proofs.PeriodAlong.{PeriodField, Placed, period-along}
+use Rattle.inspector.specs.declared.Inspector.{Inspector}
+use Rattle.inspector.specs.Reader.{stepped}
+use Rattle.inspector.specs.Walk.{Walks, there, step}
+
+-- ---- how the reading of a file ends, after so many numbers
+pub data Ending {A : Type 0} (file : List ℕ) (count : ℕ) : Read A → Type 0 where
+  -- all is read, and no bytes are left
+  all-read : {what : A} → length file ≤ startOf file count → Ending file count (read what count over)
+  -- all is read, and bytes are left
+  bytes-left : startOf file count < length file → Ending file count (refused (numberOf BytesAfter) count)
+  -- the next number has a fault
+  has-fault : {refusal : ℕ} → numberAt file count ≡ oneFault refusal → Ending file count (refused refusal count)
+  -- the last number's value is refused
+  not-allowed : {refusal place : ℕ} → ((numberOf WrongEdition) ≤ refusal) × (refusal ≤ (numberOf WrongLine)) → count ≡ suc place → Ending file count (refused refusal place)
+
+-- ---- the walk over the numbers that reading takes from number k on
+-- A reader at a byte of a file.
+abbrev pub atByte : RefT (List ℕ) → ℕ → Inspector
+atByte file at = record { file = file; at = at }
+
+-- A reader where a number of a file starts.
+abbrev pub atNumber : RefT (List ℕ) → ℕ → Inspector
+atNumber file k = atByte file (startOf (now file) k)
+
+-- A step over a number goes from where it starts to where the next one does.
+pub steps-on :
+    (file : RefT (List ℕ)) (k : ℕ) {value next : ℕ} → numberAt (now file) k ≡ oneNumber value next →
+    stepped (atNumber file k) ≡ atNumber file (suc k)
+steps-on file k e = rw (e, next-start (now file) k e) refl
+
+-- The walk over some values, how many numbers there are after it, and how reading ends then.
+pub record ConsumedWalk {A : Type 0} (file : RefT (List ℕ)) (k : ℕ) (values : List ℕ) (outcome : Read A) : Type 0 where
+  pub count : ℕ
+  pub counted : k + length values ≡ count
+  pub walks : Walks (atNumber file k) values (atNumber file count)
+  pub ending : Ending (now file) count outcome
+
+module _ (file : RefT (List ℕ)) where
+  module _ {A : Type 0} {k : ℕ} {outcome : Read A} where
+    -- none is taken
+    taken-none : Ending (now file) k outcome → ConsumedWalk file k [] outcome
+    taken-none ending = record { count = k; counted = omega arith; walks = there; ending = ending }
+
+    -- one is taken, by a step, and then the others
+    taken-one :
+        {value next : ℕ} {values : List ℕ} → numberAt (now file) k ≡ oneNumber value next → ConsumedWalk file (suc k) values outcome →
+        ConsumedWalk file k (value ∷ values) outcome
+    taken-one {values} e others =
+        let on : Walks (stepped (atNumber file k)) values (atNumber file (others .count)) = rw (steps-on file k e) (others .walks) in
+        record { count = others .count; counted = omega (arith, others .counted); walks = step e on; ending = others .ending }
+
+  -- the numbers that a reader of fields takes from number k on are a walk, and reading ends after them: number k has a fault, or it is taken,
+  -- and the test of its field decides whether the others are
+  in-walk :
+      {A : Type 0} {P : A → (place at : ℕ) → Type 0} {reader : Reader A} {k at : ℕ} {outcome : Read A} → startOf (now file) k ≡ at →
+      Along (now file) (Placed PeriodField) P reader k at → Comes (now file) reader k at outcome →
+      ConsumedWalk file k (consumes reader (run (drop at (now file)))) (ended outcome)
+  unfolding consumes
+  in-walk starts (done {what} {place} {at} p) to-end = by-end (decLe (length (now file)) at)
+    where
+      by-end : Dec (length (now file) ≤ at) → ConsumedWalk file place [] (ended (read what place (run (drop at (now file)))))
+      by-end (yes h) = rw (none-left what place (now file) at h) (taken-none (all-read (rw starts h)))
+      by-end (no h) = rw (more-left what place (now file) at (omega arith)) (taken-none (bytes-left (rw starts (omega arith))))
+  in-walk {k} {at} starts (needed its more) (goes {v} {n} e h later) =
+      let here : numberAt (now file) k ≡ oneNumber v n = rw starts e in
+      rw (number-at (now file) at v n e, h) (taken-one here (in-walk (next-start (now file) k here) (more v n e h) later))
+  in-walk {at} starts (needed (its, room) more) (fails {v} {n} e h) =
+      rw (number-at (now file) at v n e, h) (taken-one {next = n} (rw starts e) (taken-none (not-allowed its refl)))
+  in-walk {A} {k} {at} starts (needed {reason} {allowed} {then} its more) (stops {k = found} e) =
+      by-fault (rw starts e) (fault-at (now file) at found e)
+    where
+      by-fault :
+          {left : Run} {found : ℕ} → numberAt (now file) k ≡ oneFault found → Faulty left found →
+          ConsumedWalk {A = A} file k (consumes (needs reason allowed then) left) (refused found k)
+      by-fault e at-end = taken-none (has-fault e)
+      by-fault e faulty = taken-none (has-fault e)
+
+  -- the whole file, from its first number on
+  pub period-walked : ConsumedWalk file 0 (consumed (now file)) (periodFile (now file))
+  unfolding consumed periodFile
+  period-walked = in-walk (first-start (now file)) (period-along (now file)) (goes-over (now file) period 0 0)

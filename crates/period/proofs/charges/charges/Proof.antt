@@ -1,0 +1,94 @@
+-- `period::charges::charges` meets its contract: after each turn they are the charges of the segments passed, each at most the segment's emission. Assumes nothing.
+use Prim.Native.Nat.{_-_, _*_, _≤_}
+use mathlib.Core.Path.{_≡_}
+use native.Mathlib.Numerals.{add-one}
+use native.Mathlib.Omega.{arith}
+use Rattle.number.specs.Groups.{largest}
+use Rattle.period.specs.Inside.{chargesBy}
+use Rattle.period.proofs.Charging.{charge-fits, charge-at-most}
+use Rattle.period.proofs.charges.charges.Statement.{statement}
+use Rattle.period.proofs.charges.charges.Tie as tie
+
+abbrev Inv-loop : tie.InvT-loop
+Inv-loop segments amounts inflows emissions charges₀ s₀ charges s =
+    (s ≤ segments) × (charges ≡ chargesBy amounts inflows emissions s) × (charges ≤ s * largest)
+
+abbrev μ-loop : tie.MeasureT-loop
+μ-loop segments amounts inflows emissions charges₀ s₀ charges s = segments - s
+
+loop-holds : tie.Need-loop-holds Inv-loop μ-loop
+unfolding chargesBy
+loop-holds c = omega arith
+
+mul-rounded-up : tie.Need-mul-rounded-up Inv-loop μ-loop
+mul-rounded-up c = omega arith
+
+array-read-rounded-up : tie.Need-array-read-rounded-up Inv-loop μ-loop
+array-read-rounded-up c = omega arith
+
+cast-rounded-up : tie.Need-cast-rounded-up Inv-loop μ-loop
+cast-rounded-up c =
+    let chargeable = c .before .before .pre .1 (c .before .loop .s) (c .loop-test .taken) in
+    omega (arith, chargeable .0, chargeable .1)
+
+mul-rounded-up-2 : tie.Need-mul-rounded-up-2 Inv-loop μ-loop
+mul-rounded-up-2 c = omega arith
+
+array-read-rounded-up-2 : tie.Need-array-read-rounded-up-2 Inv-loop μ-loop
+array-read-rounded-up-2 c = omega arith
+
+mul-rounded-up-3 : tie.Need-mul-rounded-up-3 Inv-loop μ-loop
+mul-rounded-up-3 c = omega (arith, charge-fits (c .before .before .pre .1 (c .before .loop .s) (c .loop-test .taken)))
+
+mul-rounded-up-4 : tie.Need-mul-rounded-up-4 Inv-loop μ-loop
+mul-rounded-up-4 c = omega arith
+
+array-read-rounded-up-3 : tie.Need-array-read-rounded-up-3 Inv-loop μ-loop
+array-read-rounded-up-3 c = omega arith
+
+rounded-up-requires : tie.Need-rounded-up-requires Inv-loop μ-loop
+rounded-up-requires c κs = charge-fits (c .before .before .pre .1 (c .before .loop .s) (c .loop-test .taken))
+
+add-charges : tie.Need-add-charges Inv-loop μ-loop
+add-charges c =
+    let chargeable = c .before .before .before .pre .1 (c .before .before .loop .s) (c .before .loop-test .taken) in
+    omega (arith, charge-at-most chargeable)
+
+add-s : tie.Need-add-s Inv-loop μ-loop
+add-s c = omega arith
+
+loop-less : tie.Need-loop-less Inv-loop μ-loop
+loop-less c = omega arith
+
+loop-again : tie.Need-loop-again Inv-loop μ-loop
+unfolding chargesBy
+loop-again c =
+    let chargeable = c .before .before .before .pre .1 (c .before .before .loop .s) (c .before .loop-test .taken) in
+    (omega arith, rw add-one (omega arith), omega (arith, charge-at-most chargeable))
+
+returns : tie.Need-returns Inv-loop μ-loop
+returns c =
+    let all : c .before .loop .s ≡ c .before .before .args .segments = omega arith in
+    (rw (← all) (c .before .loop .inv .1), omega arith)
+
+pub charges-spec : {M : Type 1} → statement M
+charges-spec =
+    tie.close
+    (tie.spec
+    Inv-loop
+    μ-loop
+    loop-holds
+    mul-rounded-up
+    array-read-rounded-up
+    cast-rounded-up
+    mul-rounded-up-2
+    array-read-rounded-up-2
+    mul-rounded-up-3
+    mul-rounded-up-4
+    array-read-rounded-up-3
+    rounded-up-requires
+    add-charges
+    add-s
+    loop-less
+    loop-again
+    returns)

@@ -1,0 +1,28 @@
+-- `records::reading::header::header_of` meets its contract: it tells what the reading of the header came to. Assumes nothing.
+use mathlib.Core.Path.{sym, ap}
+use borrow.Author.Needs.{needs}
+use Rattle.records.specs.Headers.{telling, headerOf}
+use Rattle.records.proofs.reading.header.header_of.Statement.{statement}
+use Rattle.records.proofs.reading.header.header_of.Tie as tie
+
+read-header-requires : tie.Need-read-header-requires
+read-header-requires c κs = search needs
+
+enum-known--refusal : tie.Need-enum-known--refusal
+enum-known--refusal c = search needs
+
+enum-known-counts : tie.Need-enum-known-counts
+enum-known-counts c = search needs
+
+returns : tie.Need-returns
+unfolding headerOf
+returns c = sym (ap telling (rw (c .before .-refusal .given .1) at (c .before .before .before .read-header .ensures)))
+
+returns-2 : tie.Need-returns-2
+unfolding headerOf
+returns-2 c = sym (ap telling (rw (c .before .counts .given .1) at (c .before .before .before .read-header .ensures) .0))
+
+pub header-of-spec : {M : Type 1} → statement M
+header-of-spec =
+    tie.close
+    (tie.spec read-header-requires enum-known--refusal enum-known-counts returns returns-2)
