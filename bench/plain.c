@@ -111,7 +111,7 @@ static uint32_t read_plant(struct reader *reader, const struct period *period, s
     return fault;
 }
 
-/* A store has next segment 0; the others one with a number larger than their own, `number`. */
+/* A store leads nowhere, which is 0; any other segment leads to one behind it, whose number is above its own, `number`. */
 static uint32_t read_segment(struct reader *reader, const struct period *period, uint32_t number, struct segment *segment)
 {
     const uint32_t refusal = STEEPLECUFF_REFUSED_SEGMENT_FIELD;

@@ -44,7 +44,7 @@ enum steeplecuff_segment_number {
     STEEPLECUFF_SEGMENT_OUTFLOW,  /* D: the metered outflow */
     STEEPLECUFF_SEGMENT_LOST,     /* A - D */
     STEEPLECUFF_SEGMENT_EMISSION, /* E: the segment's own emissions */
-    STEEPLECUFF_SEGMENT_PLANTS,   /* the set of plants: bit p - 1 is set when plant p's route passes, even with 0 kg */
+    STEEPLECUFF_SEGMENT_PLANTS,   /* who passes: plant 1 has the lowest bit, plant 2 the next; also with 0 kg */
     STEEPLECUFF_SEGMENT_NUMBERS   /* how many numbers a segment's row has: 5 */
 };
 
@@ -75,7 +75,7 @@ enum steeplecuff_count_byte { STEEPLECUFF_PLANTS_BYTE = 1, STEEPLECUFF_SEGMENTS_
  */
 enum steeplecuff_answer {
     STEEPLECUFF_ACCEPTED = 0,                         /* both tables are written; the place is 0 */
-    STEEPLECUFF_REFUSED_FILE_ENDS = 1,                /* the file ends inside a number or where one is needed: number */
+    STEEPLECUFF_REFUSED_FILE_ENDS = 1,                /* the file ends within a number or before one that is due: number */
     STEEPLECUFF_REFUSED_NOT_SHORTEST = 2,             /* a number is not in its shortest form: number */
     STEEPLECUFF_REFUSED_NUMBER_OVER_LIMIT = 3,        /* a fifth group says more follow, or over 4,000,000,000: number */
     STEEPLECUFF_REFUSED_EDITION = 4,                  /* the edition is not 1: number */
@@ -100,7 +100,7 @@ enum steeplecuff_answer {
  * Out:  plants[0 .. plants_len - 1] and segments[0 .. segments_len - 1], the tables. A table is a run of numbers of eight
  *       bytes, least significant first, at any alignment, one row after the other: field f of plant p (from 1) is number
  *       (p - 1) * STEEPLECUFF_PLANT_NUMBERS + f. A length that is no multiple of eight counts as its whole numbers.
- *       Acceptance writes the first 8P and 5S numbers; later numbers and spare bytes stay as they were.
+ *       Acceptance writes 8 numbers for each plant and 5 for each segment; all behind them stays.
  *       A refusal leaves both tables as they were.
  *
  * The caller owes: no pointer is null, also where its length is 0; each is good for its length; the tables and *place

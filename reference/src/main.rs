@@ -50,9 +50,9 @@ usage: reference answer numbers|readings|historian
            starts PROGRAM for each period file and compares the inspector's page it
            prints with its own
        reference rows
-           reads a period file on standard input, writes its rows or its refusal
+           writes the rows of the period file on standard input, or its refusal
        reference inspect
-           reads a period file on standard input, writes the inspector's page: a line
+           writes the inspector's page of the period file on standard input: a line
            for each number, its refusal if its reading refuses it, and a line for how
            the walk ends
        reference cases periods SEED COUNT

@@ -149,7 +149,7 @@ static void check_edits(void)
         {"first line 4000000000 x 1001", 2, {{FIRST_QUANTITY, 4000000000}, {FIRST_FACTOR, 1001}}, {10, 1, NULL}},
         {"first outflow 15001", 1, {{FIRST_OUTFLOW, 15001}}, {0, 0, &no_loss_rows}},
         {"first outflow 15002", 1, {{FIRST_OUTFLOW, 15002}}, {12, 1, NULL}},
-        {"both exports and outflows 0, lines kept", 4,
+        {"nothing exported, nothing metered", 4,
          {{FIRST_EXPORTED, 0}, {SECOND_EXPORTED, 0}, {FIRST_OUTFLOW, 0}, {SECOND_OUTFLOW, 0}}, {13, 1, NULL}},
     };
     for (size_t i = 0; i < sizeof cases / sizeof cases[0]; i++) {

@@ -1,5 +1,5 @@
--- "If in two accepted periods a plant has the same number, record, lines, route and route segments with their lines, and no other plant's
--- route meets its own, its results are the same."
+-- A plant that shares no segment with another has the same results in every accepted period that has the same of it: number, record and lines,
+-- and its route with the records and lines of the segments on it.
 --
 -- Where no other plant's route passes a segment, all that comes in there is the plant's own, all that goes out is credited to it, and the
 -- whole emission is charged to it. So along such a route the plant stores what goes out of the last segment, and is charged the emissions of

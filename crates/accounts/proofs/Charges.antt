@@ -16,7 +16,7 @@ use Rattle.accounts.proofs.Credits.{div-mono, up-part}
 
 -- ---- a segment's account, and the charge for an amount
 module _ (a : Account) where
-  -- "If A is 0 .. charges are 0"
+  -- where nothing comes in, nothing is charged
   pub charge-without-inflow : (amount : ℕ) → a .inflow ≡ 0 → charge a amount ≡ 0
   charge-without-inflow amount none = rw none (div-zero _)
 

@@ -1,4 +1,4 @@
--- "Charges may add up to more than E, by fewer kg than there are plants."
+-- The charges at a segment cover its emission, and exceed it by less than a kg for each plant there.
 -- Each plant on a segment is charged its part of the emission, rounded up. The parts add up to E, so the charges are no less; and each of the
 -- plants on the segment is charged less than one kg over its part.
 use Prim.Native.Nat.{ℕ, _+_, _-_, _*_, _≤_, _<_}
@@ -32,7 +32,7 @@ module _ (a : Account) where
   all-least some [] = omega arith
   all-least some (amount ∷ rest) = omega (arith, charge-least a amount some, all-least some rest)
 
-  -- by less than one kg for each that passes
+  -- each is over its part by less than a kg
   all-most :
       (own : ℕ) (standings : List Standing) →
       sum (map (charge a) (amounts own standings)) * a .inflow

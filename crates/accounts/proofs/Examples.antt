@@ -65,7 +65,7 @@ pub examples :
     × (quantified (0x01 ∷ 0x00 ∷ []) 16 10 ≡ refusal 5 1)
     -- whole period, second kind 5
     × (quantified (file (numbers 10000 5001 14900 5 14899 2000 350)) 16 10 ≡ refusal 7 15)
-    -- whole period and one byte more
+    -- a byte behind the whole period
     × (quantified (whole ++ 0x00 ∷ []) 16 10 ≡ refusal 9 26)
     -- first line 4000000000 × 1000: plant 1 units 0, deficit 3999990248
     × (quantified (file (numbers 10000 5001 14900 6 14899 4_000_000_000 1000)) 16 10
@@ -89,7 +89,7 @@ pub examples :
     ∷ []))
     -- first outflow 15002
     × (quantified (file (numbers 10000 5001 15002 6 14899 2000 350)) 16 10 ≡ refusal 12 1)
-    -- both exports and outflows 0, lines kept
+    -- nothing is exported and no meter shows anything, but there are lines
     × (quantified (file (numbers 0 0 0 6 0 2000 350)) 16 10 ≡ refusal 13 1)
     -- plant table of 15 numbers
     × (quantified whole 15 10 ≡ refusal 14 16)
@@ -98,7 +98,7 @@ unfolding gather value padded reading formed writing written flatMap zipWith cla
     segmentTests accountsOf rows judged quantified
 examples = (refl, refl, refl, refl, refl, refl, refl, refl, refl, refl, refl, refl, refl, refl, refl)
 
--- "Easily done wrongly": "two lines of 500 g are 1 kg, not 2"
+-- 01, "Easily done wrongly": half a kg and half a kg more of one owner make one kg
 pub two-lines :
     let line = lineOf plantOwner 1 3 500 1 in
     emission plantOwner 1 (line ∷ line ∷ []) ≡ 1

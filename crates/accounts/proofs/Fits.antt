@@ -1,4 +1,4 @@
--- "Table entries are 64-bit numbers": every number of both tables of an accepted file is one. No amount is over the largest number of a file,
+-- Every number of both tables of an accepted file fits the 64 bits of its entry. No amount is over the largest number of a file,
 -- since none grows on its way; and no emission is, since no owner's grams pass the limit.
 use Prim.Native.Nat.{ℕ, zero, suc, _+_, _-_, _*_, _/_, _%_, _^_, _≤_, _<_}
 use mathlib.Core.Path.{_≡_, sym, ap, _∙_}

@@ -1,5 +1,5 @@
--- "The total may be at most 4,000,000,000,000 g": of every owner in a file that the call accepts. The test is put to each line, with the total of
--- its owner up to that line, so the last line of an owner answers for all its lines.
+-- No owner's grams pass the limit in a file that the call accepts. The test is put to each line, with the total of its owner up to that
+-- line, so the last line of an owner answers for all its lines.
 use Prim.Native.Nat.{ℕ, _≤_}
 use mathlib.Core.List.{List}
 use Rattle.accounts.specs.Emissions.{mostGrams, ownedBy, gramsOf}

@@ -1,4 +1,4 @@
--- "Of two accepted periods that differ only in one emission line's larger quantity, the larger gives no plant more units."
+-- More of a quantity in one line, and all else the same: where both periods are accepted, no plant gains a unit by it.
 -- Whose line it is does not matter. The CO2 on its way looks at no line, so every plant stores the same in both periods. Every owner's
 -- emission is no less, so no plant is charged less at any segment, and what is associated with it can only lower its net amount.
 use Prim.Native.Nat.{ℕ, suc, _+_, _*_, _≤_, _<_}

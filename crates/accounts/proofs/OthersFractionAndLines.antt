@@ -1,4 +1,4 @@
--- "On shared routes too, another plant's origin fraction and own lines never change [a plant's results]."
+-- A plant's results do not hang on which part of another's CO2 counts, nor on what another emits itself; also where they share segments.
 -- The CO2 is shared as it was exported, whatever its origin, and a segment is charged for its own lines. So all that other plants'
 -- fractions and lines can change is their own rows: the row of the plant that stays the same does not change, and no segment's does.
 use Prim.Native.Nat.{ℕ, suc, _<_}

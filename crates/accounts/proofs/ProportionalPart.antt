@@ -69,7 +69,7 @@ module _ {file plants segments : List ℕ} (given : Accepted file plants segment
         let step = one-more s (omega (arith, all)) past in
         stays-stored left (suc s) (omega (arith, all)) (ap (λ (standing : Standing). standing .before) step ∙ past) ∙ step
 
-  -- "The credit at the store is the plant's stored amount.": after a segment without a next one the plant stays with it
+  -- what is credited at a store is stored: after a segment without a next one the plant stays with it
   pub stored-at-store :
       (s p : ℕ) → s < length (held file .segments) → p < length (held file .plants) →
       passes (turnAt (held file) s .own) (getD (turnAt (held file) s .standings) p nowhere) ≡ true → turnAt (held file) s .segment .next ≡ 0 →

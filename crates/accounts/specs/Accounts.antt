@@ -19,7 +19,7 @@ pub record Account : Type 0 where
   pub emission : ℕ
   pub plants : ℕ
 
--- "the set of plants as a number, bit p − 1 set when plant p's route passes, even with amount 0"
+-- Who passes a segment, as a number: plant 1 has the lowest bit. A plant that brings nothing passes, too.
 unfoldable pub setOf : (own bit : ℕ) → List Standing → ℕ
 setOf own bit [] = 0
 setOf own bit (standing ∷ rest) = cond (passes own standing) (2 ^ bit) 0 + setOf own (suc bit) rest
@@ -39,7 +39,7 @@ account lines turn = record {
   plants = setOf (turn .own) 0 (turn .standings);
 }
 
--- "A segment's emission E is charged to each plant on its own as ceil(a × E / A)"; "If A is 0 .. charges are 0", as the library's n / 0 is.
+-- A plant's part of what a segment emits, by what it brings of the inflow, rounded up. Without inflow it is 0, as the library's n / 0 is.
 abbrev pub charge : Account → ℕ → ℕ
 charge segment amount = roundedUp (amount * segment .emission) (segment .inflow)
 
@@ -47,6 +47,6 @@ charge segment amount = roundedUp (amount * segment .emission) (segment .inflow)
 abbrev pub chargeTo : ℕ → Account → ℕ
 chargeTo index segment = charge segment (getD (segment .entering) index 0)
 
--- "all its charges"
+-- what a plant is charged at all segments
 abbrev pub charges : ℕ → List Account → ℕ
 charges index accounts = sum (map (chargeTo index) accounts)

@@ -1,5 +1,5 @@
--- "Numbers of refusal" and "Order" once more, without a reader of fields: every test of a file at its place, in order. A test looks up in the
--- file the numbers that it needs; what a number is, and which of the faults 1, 2 and 3 it has, the number layer says (`readAt`).
+-- 01's numbers of refusal and their order once more, without a reader of fields: every test of a file at its place, in order. A test looks up in
+-- the file the numbers that it needs; what a number is, and which of the faults 1, 2 and 3 it has, the number layer says (`readAt`).
 -- `proofs/Order.antt` shows that the answer is that of the first test that fails.
 use Prim.Native.Nat.{ℕ, zero, suc, _+_, _*_}
 use mathlib.Core.Bool.{Bool, false, not}
@@ -73,8 +73,7 @@ periodAt file = record {
 }
 
 -- ---- the tests
--- 1: "file ends inside a number or where one is needed"; 2: "number not in shortest form"; 3: "fifth group says more follow, or value over
--- 4,000,000,000". A number has at most one fault.
+-- 1, 2 and 3: the faults that the number layer finds. A number has at most one.
 abbrev pub isFault : Reason → Found → Bool
 isFault reason (oneNumber value next) = false
 isFault reason (oneFault found) = eqb found (numberOf reason)
@@ -87,11 +86,11 @@ faultTest reason file k = record { fails = isFault reason (numberAt file k); rea
 abbrev pub numberTests : List ℕ → ℕ → List Test
 numberTests file k = faultTest Ends file k ∷ faultTest NotShortest file k ∷ faultTest TooLarge file k ∷ []
 
--- "then for its own field"
+-- the test of a number's own field
 abbrev pub fieldTests : Reason → (ℕ → Bool) → List ℕ → ℕ → List Test
 fieldTests reason allowed file k = numberTests file k ++ record { fails = not (allowed (valueAt file k)); reason = reason; place = k } ∷ []
 
--- 4: "edition is not 1"; 5: "P, S or L outside its range"
+-- 4 for the edition, 5 for each of the three counts
 unfoldable pub headerTests : List ℕ → List Test
 headerTests file =
     fieldTests WrongEdition (eqb edition) file 0
@@ -99,7 +98,7 @@ headerTests file =
     ++ (fieldTests WrongCount segmentsAllowed file 2
     ++ fieldTests WrongCount linesAllowed file 3))
 
--- 6: "plant field outside its range"
+-- 6, for the fields of a plant
 unfoldable pub plantTests : List ℕ → ℕ → List Test
 plantTests file index =
     let k = plantPlace index in
@@ -107,7 +106,7 @@ plantTests file index =
     ++ (fieldTests WrongPlant (firstAllowed (countsAt file)) file (1 + k)
     ++ fieldTests WrongPlant fractionAllowed file (2 + k))
 
--- 7: "kind or next segment not allowed"
+-- 7, for those of a segment
 unfoldable pub segmentFieldTests : List ℕ → ℕ → List Test
 segmentFieldTests file index =
     let k = segmentPlace (countsAt file) index in
@@ -115,7 +114,7 @@ segmentFieldTests file index =
     ++ (numberTests file (1 + k)
     ++ fieldTests WrongSegment (nextAllowed (countsAt file) (suc index) (valueAt file k)) file (2 + k))
 
--- 8: "line field not allowed"
+-- 8, for those of a line
 unfoldable pub lineFieldTests : List ℕ → ℕ → List Test
 lineFieldTests file index =
     let k = linePlace (countsAt file) index in
@@ -125,7 +124,7 @@ lineFieldTests file index =
     ++ (numberTests file (3 + k)
     ++ fieldTests WrongLine factorAllowed file (4 + k))))
 
--- 9: "bytes after the last number", whose place is the count of numbers
+-- 9: more bytes than numbers need, whose place is the count of numbers
 abbrev pub endTest : List ℕ → Test
 endTest file =
     let count = numberCount (countsAt file) in
@@ -136,7 +135,7 @@ unfoldable pub testsOfEach : (ℕ → List Test) → (from count : ℕ) → List
 testsOfEach tests from zero = []
 testsOfEach tests from (suc count) = tests from ++ testsOfEach tests (suc from) count
 
--- "the file is read front to back .. Then 9."
+-- the tests of reading: the fields of all records in their order, then the end of the file
 unfoldable pub readingTests : List ℕ → List Test
 readingTests file =
     let counts = countsAt file in
@@ -146,8 +145,8 @@ readingTests file =
     ++ (testsOfEach (lineFieldTests file) 0 (counts .lines)
     ++ endTest file ∷ [])))
 
--- "Then 10 over the lines in file order. Then for each segment in rising number 11, 12, 13. Then 14, then 15.": all tests of a file, with
--- tables of so many numbers
+-- All tests of a file, with tables of so many numbers: those of reading, then the grams line by line (10), the segments one by one (11 to 13),
+-- and the room in both tables (14, 15).
 unfoldable pub allTests : List ℕ → (plantTable segmentTable : ℕ) → List Test
 allTests file plantTable segmentTable =
     let period = periodAt file in

@@ -13,7 +13,7 @@ use Rattle.records.specs.Periods.{Period}
 use Rattle.accounts.specs.Emissions.{ownedBy, chosen}
 use Rattle.accounts.specs.Routes.{routeOf}
 
--- "differ only in one emission line's larger quantity"
+-- Two periods, of which the second has more of the quantity in one line, and all else alike.
 pub record OneLineLarger (smaller larger : Period) : Type 0 where
   pub before : List Line
   pub line : Line
@@ -29,7 +29,7 @@ pub record OneLineLarger (smaller larger : Period) : Type 0 where
 abbrev pub notOthers : ℕ → Line → Bool
 notOthers index line = eqb (line .«owner_kind») segmentOwner || ownedBy plantOwner (suc index) line
 
--- "another plant's origin fraction and own lines": of all other plants than the one at an index, the periods differ in these alone
+-- Two periods that differ in nothing but what other plants than the one at an index have of their own: origin fractions, and lines.
 pub record OthersOwn (index : ℕ) (one two : Period) : Type 0 where
   pub segments : two .segments ≡ one .segments
   pub count : length (two .plants) ≡ length (one .plants)
@@ -38,7 +38,7 @@ pub record OthersOwn (index : ℕ) (one two : Period) : Type 0 where
   pub plant : getD (two .plants) index noPlant ≡ getD (one .plants) index noPlant
   pub lines : chosen (notOthers index) (two .lines) ≡ chosen (notOthers index) (one .lines)
 
--- "the same number, record, lines, route and route segments with their lines": of the plant at an index from 0
+-- Two periods that have the same of the plant at an index from 0: its record, its lines, and its route.
 pub record SameFor (index : ℕ) (one two : Period) : Type 0 where
   pub plant : getD (two .plants) index noPlant ≡ getD (one .plants) index noPlant
   pub lines : chosen (ownedBy plantOwner (suc index)) (two .lines) ≡ chosen (ownedBy plantOwner (suc index)) (one .lines)

@@ -1,4 +1,4 @@
--- "Emissions of an owner."
+-- What an owner emits (01, "The equations, made exact").
 use Prim.Native.Nat.{ℕ, _*_}
 use mathlib.Core.Bool.{Bool, cond, _&&_}
 use mathlib.Core.List.{List, [], _∷_, map}
@@ -6,11 +6,11 @@ use lib.Dec.{eqb}
 use Rattle.records.specs.declared.line.Line.{Line}
 use Rattle.accounts.specs.Sums.{sum, roundedUp}
 
--- "The total may be at most 4,000,000,000,000 g."
+-- the most grams that an owner may have
 abbrev pub mostGrams : ℕ
 mostGrams = 4_000_000_000_000
 
--- "A line gives quantity times factor, in grams."
+-- what a line comes to, in grams
 abbrev pub grams : Line → ℕ
 grams line = line .quantity * line .factor
 
@@ -27,13 +27,13 @@ chosen choose (line ∷ lines) = cond (choose line) (line ∷ chosen choose line
 unfoldable pub gramsOf : (Line → Bool) → List Line → ℕ
 gramsOf choose lines = sum (map grams (chosen choose lines))
 
--- "and the total is rounded up to a kg once, not line by line"
+-- A total in kg, rounded up: this is done to totals, never to lines.
 abbrev pub gramsInKg : ℕ
 gramsInKg = 1000
 
 abbrev pub inKg : ℕ → ℕ
 inKg total = roundedUp total gramsInKg
 
--- An owner's emission: "An owner's lines are added over all classes".
+-- An owner's emission, of all its lines, whatever their class.
 unfoldable pub emission : ℕ → ℕ → List Line → ℕ
 emission ownerKind owner lines = inKg (gramsOf (ownedBy ownerKind owner) lines)

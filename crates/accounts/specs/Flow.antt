@@ -1,4 +1,4 @@
--- "Inflow" and "Credit": the plants' amounts on their way from segment to segment. Nothing here looks at a line.
+-- Inflow and credit: the plants' amounts on their way from segment to segment. Nothing here looks at a line.
 use Prim.Native.Nat.{ℕ, suc, _+_, _-_, _*_, _/_}
 use mathlib.Core.Bool.{Bool, cond}
 use mathlib.Core.List.{List, [], _∷_, map, zipWith}
@@ -16,7 +16,7 @@ pub record Standing : Type 0 where
 abbrev pub nowhere : Standing
 nowhere = record { before = 0; amount = 0 }
 
--- "A plant's amount at its first segment is its export."
+-- A plant starts with what it exported, before its first segment.
 abbrev pub atFirst : Plant → Standing
 atFirst plant = record { before = plant .first; amount = plant .exported }
 
@@ -32,8 +32,8 @@ brings own standing = cond (passes own standing) (standing .amount) 0
 abbrev pub amounts : ℕ → List Standing → List ℕ
 amounts own = map (brings own)
 
--- "let C be the sum of amounts up to and including this plant, and B the sum before it. The credit is
--- floor(C × D / A) − floor(B × D / A). If A is 0 every credit is 0", as the library's n / 0 is.
+-- A plant's credit by running sums: what all up to this plant have of the outflow, less what all before it have, both rounded down. Without
+-- inflow it is 0, as the library's n / 0 is.
 abbrev pub credit : (inflow outflow before amount : ℕ) → ℕ
 credit inflow outflow before amount = (before + amount) * outflow / inflow - before * outflow / inflow
 
@@ -43,11 +43,11 @@ creditsFrom inflow outflow before [] = []
 creditsFrom inflow outflow before (amount ∷ rest) =
     credit inflow outflow before amount ∷ creditsFrom inflow outflow (before + amount) rest
 
--- "With the plants in rising number"; "Inflow A is the sum over the plants whose route passes."
+-- The credits of all plants in turn; the inflow is what they bring together.
 abbrev pub credits : ℕ → List ℕ → List ℕ
 credits outflow entering = creditsFrom (sum entering) outflow 0 entering
 
--- "At each later segment of its route it is what the segment before credited."
+-- A plant that passes goes on with its credit, to where the segment leads.
 abbrev pub sentOn : ℕ → ℕ → Standing → ℕ → Standing
 sentOn own next standing credit = cond (passes own standing) (record { before = next; amount = credit }) standing
 
@@ -61,7 +61,7 @@ pub record Turn : Type 0 where
   pub segment : Segment
   pub standings : List Standing
 
--- "Segments are worked in rising number."
+-- The segments have their turns by number.
 unfoldable pub turns : ℕ → List Segment → List Standing → List Turn
 turns own [] standings = []
 turns own (segment ∷ rest) standings =

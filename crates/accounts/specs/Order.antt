@@ -1,4 +1,4 @@
--- "Order": the tests of a period that was read, one after another.
+-- The order of refusals: the tests of a period that was read, one after another.
 use Prim.Native.Nat.{ℕ, suc, _*_}
 use mathlib.Core.Path.{_≡_}
 use mathlib.Core.Bool.{Bool, true, false, cond, _&&_}
@@ -42,7 +42,7 @@ pub data NoneFails : List Test → Type 0 where
   end : NoneFails []
   holds : {test : Test} {tests : List Test} → test .fails ≡ false → NoneFails tests → NoneFails (test ∷ tests)
 
--- "Then 10 over the lines in file order": the total of the line's owner, up to and including this line
+-- 10, line by line: the total of the line's owner, this line included
 unfoldable pub lineTests : List Line → (done : ℕ) → List Line → List Test
 lineTests lines done [] = []
 lineTests lines done (line ∷ rest) =
@@ -53,7 +53,7 @@ lineTests lines done (line ∷ rest) =
     }
     ∷ lineTests lines (suc done) rest
 
--- "Then for each segment in rising number 11, 12, 13"
+-- 11, 12 and 13, segment by segment
 unfoldable pub segmentTests : List Account → List Test
 segmentTests [] = []
 segmentTests (a ∷ accounts) =
@@ -62,14 +62,14 @@ segmentTests (a ∷ accounts) =
     ∷ record { fails = ltb 0 (a .emission) && eqb (a .inflow) 0; reason = EmissionWithoutInflow; place = a .own }
     ∷ segmentTests accounts
 
--- "Acceptance writes the first 8P and 5S numbers"
+-- how many numbers the rows take, of a plant and of a segment
 abbrev pub plantNumbers : ℕ
 plantNumbers = 8
 
 abbrev pub segmentNumbers : ℕ
 segmentNumbers = 5
 
--- "Then 14, then 15."
+-- 14 and 15: the room in the tables, last of all
 abbrev pub tableTests : Counts → (plantTable segmentTable : ℕ) → List Test
 tableTests counts plantTable segmentTable =
     let plantsNeed = plantNumbers * counts .plants in

@@ -1,4 +1,4 @@
--- "Result of a plant" and "Result of a segment": the rows, in 01's order.
+-- The results of plants and segments as rows, with the columns in 01's order.
 use Prim.Native.Nat.{ℕ, suc, _+_, _-_, _*_, _/_}
 use mathlib.Core.List.{List, [], _∷_, _++_}
 use Rattle.records.specs.declared.plant.Plant.{Plant}
@@ -9,13 +9,11 @@ use Rattle.accounts.specs.Emissions.{emission}
 use Rattle.accounts.specs.Flow.{Standing}
 use Rattle.accounts.specs.Accounts.{Account, charges}
 
--- "units = floor(net / 1000), one unit a tonne"
+-- a unit is a tonne
 abbrev pub kgInUnit : ℕ
 kgInUnit = 1000
 
--- "exported; stored; lost = exported − stored; gross = floor(stored × fraction / 1,000,000); associated = own emissions + all its
--- charges; net = gross − associated, or 0 if associated is larger; units = floor(net / 1000), one unit a tonne; deficit = associated −
--- gross, or 0 if gross is larger". The library's m - n is 0 where n is larger.
+-- A plant's row. Gross and units are rounded down; of net and deficit one at least is 0, since the library's m - n is 0 where n is larger.
 abbrev pub plantRow : Plant → (stored associated : ℕ) → List ℕ
 plantRow plant stored associated =
     let lost = plant .exported - stored in
@@ -25,18 +23,18 @@ plantRow plant stored associated =
     let deficit = associated - gross in
     plant .exported ∷ stored ∷ lost ∷ gross ∷ associated ∷ net ∷ units ∷ deficit ∷ []
 
--- "associated = own emissions + all its charges", for the plant at an index from 0
+-- what is associated with the plant at an index from 0: what it emits, and what it is charged
 abbrev pub associated : List Line → List Account → ℕ → ℕ
 associated lines accounts index = emission plantOwner (suc index) lines + charges index accounts
 
--- The rows of the plants from an index on, one after another. "The credit at the store is the plant's stored amount."
+-- The rows of the plants from an index on, one after another. Stored is what a plant has when all segments have had their turn.
 unfoldable pub plantRows : List Line → List Account → ℕ → List Plant → List Standing → List ℕ
 plantRows lines accounts index [] arrived = []
 plantRows lines accounts index (plant ∷ plants) [] = []
 plantRows lines accounts index (plant ∷ plants) (standing ∷ arrived) =
     plantRow plant (standing .amount) (associated lines accounts index) ++ plantRows lines accounts (suc index) plants arrived
 
--- "A; D; A − D; E; the set of plants as a number"
+-- A segment's row: what came in, what went out, what was lost there, what it emits, and who passes.
 abbrev pub segmentRow : (inflow outflow emission plants : ℕ) → List ℕ
 segmentRow inflow outflow emission plants = let lost = inflow - outflow in inflow ∷ outflow ∷ lost ∷ emission ∷ plants ∷ []
 

@@ -16,14 +16,14 @@ unfoldable pub columnSum : (numbers column count : ℕ) → List ℕ → ℕ
 columnSum numbers column zero table = 0
 columnSum numbers column (suc count) table = columnSum numbers column count table + inRow numbers count column table
 
--- "Table entries are 64-bit numbers": each of a table's numbers is one
+-- each of a table's numbers fits the 64 bits of its entry
 abbrev pub entryBits : ℕ
 entryBits = 64
 
 abbrev pub Entries : List ℕ → Type 0
 Entries table = (i : ℕ) → getD table i 0 < 2 ^ entryBits
 
--- the columns of the plant table that the theorems name: "exported; stored; .. associated = ..; .. units = .."
+-- the columns of the plant table that the theorems name
 abbrev pub exportedColumn : ℕ
 exportedColumn = 0
 
@@ -36,7 +36,7 @@ associatedColumn = 4
 abbrev pub unitsColumn : ℕ
 unitsColumn = 6
 
--- those of the segment table: "A; D; A − D; E; the set of plants as a number"
+-- those of the segment table
 abbrev pub inflowColumn : ℕ
 inflowColumn = 0
 

@@ -43,7 +43,7 @@ afterwards turn = passed (turn .own) (turn .segment) (turn .standings)
 abbrev pub charged : List Line → Turn → List ℕ
 charged lines turn = map (charge (account lines turn)) (entering turn)
 
--- "own emissions", of so many plants from the first on
+-- what the plants emit themselves, of so many from the first on
 unfoldable pub ownEmissions : List Line → ℕ → List ℕ
 ownEmissions lines zero = []
 ownEmissions lines (suc count) = ownEmissions lines count ++ emission plantOwner (suc count) lines ∷ []
@@ -66,7 +66,7 @@ pub record SentOn (turn : Turn) (index : ℕ) : Type 0 where
       passes (turn .own) (getD (turn .standings) index nowhere) ≡ false →
       getD (afterwards turn) index nowhere ≡ getD (turn .standings) index nowhere
 
--- Its credit is the proportional part, rounded down or up; and it is sent on, with no more than it brings.
+-- It is credited what its share of the inflow has of the outflow, to the kg below or above; and it is sent on.
 pub record Credited (turn : Turn) (index : ℕ) : Type 0 where
   pub rounded :
       (creditOf turn index ≡ amountOf turn index * turn .segment .outflow / sum (entering turn))
@@ -78,7 +78,7 @@ pub record Credited (turn : Turn) (index : ℕ) : Type 0 where
 pub record AddUp (emission inflow plants charges : ℕ) : Type 0 where
   -- they come to no less than E
   pub no-less : emission ≤ charges
-  -- "by fewer kg than there are plants"
+  -- and to less than a kg more for each plant
   pub fewer : 0 < inflow → charges < emission + plants
-  -- "If A is 0, E must be 0 and charges are 0."
+  -- and where nothing comes in, there is nothing to charge
   pub none : inflow ≡ 0 → (emission ≡ 0) × (charges ≡ 0)

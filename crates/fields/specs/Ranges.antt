@@ -10,6 +10,6 @@ within lowest highest value = leb lowest value && leb value highest
 abbrev pub upTo : ℕ → ℕ → Bool
 upTo highest value = leb value highest
 
--- "Zero is a true amount in every kg, quantity, fraction and factor field": any number that can be read is allowed.
+-- An amount has no range of its own: whatever can be read is allowed, and 0 means none of it.
 abbrev pub anyAmount : ℕ → Bool
 anyAmount value = true

@@ -1,4 +1,5 @@
--- Readers of fields: a file is read front to back; each number is tested for 1, 2 and 3 as its bytes come, and then for its own field.
+-- Readers of fields: they take a file's numbers in turn. A number has its faults 1, 2 and 3 from its bytes; one without is put to the test of
+-- its field before the next is taken.
 use Prim.Native.Nat.{ℕ, zero, suc}
 use mathlib.Core.Bool.{Bool, true, cond}
 use mathlib.Core.List.{List, [], _∷_}

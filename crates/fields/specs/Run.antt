@@ -1,4 +1,4 @@
--- "The file is a run of numbers, counted from 0, with nothing after the last."
+-- A file as its numbers, one behind another (01, "The period file").
 use Prim.Native.Nat.{ℕ, zero, suc}
 use mathlib.Core.List.{List, [], _∷_}
 use lib.ListN.{length, drop}

@@ -4,7 +4,7 @@ ghost use Rattle.fields.specs.Reasons.{numberOf};
 
 // In the order of their numbers. Files of every kind can have 1, 2, 3, 5 and 9.
 pub enum Reason {
-    // The file ends inside a number, or where one is needed.
+    // The file is at its end, and a number is unfinished or still to come.
     Ends,
     // A number is not in its shortest form.
     NotShortest,

@@ -153,7 +153,7 @@ module _ {file plants segments : List ℕ} {outcome : Outcome} (promised : Entry
         ),
       )
 
-  -- "A refusal .. writes neither table."
+  -- a refusal leaves the bytes of both tables alone
   pub untouched-bytes : (outcome .result ≡ 0 → ⊥) → (outcome .plants ≡ plants) × (outcome .segments ≡ segments)
   unfolding flatMap
   untouched-bytes refused =

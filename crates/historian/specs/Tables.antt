@@ -1,5 +1,5 @@
--- The tables of a C caller: "for the C caller a table is bytes, eight a number, least significant first, its length counted in whole
--- numbers"; and the promise of the call from C.
+-- The tables of a C caller, which are bytes: eight to a number, the lowest in front, and only whole numbers count (01, "Numbers of refusal").
+-- And the promise of the call from C.
 use Prim.Native.Nat.{ℕ, zero, suc, _+_, _*_, _/_, _%_}
 use mathlib.Core.Path.{_≡_}
 use mathlib.Core.List.{List, [], _∷_, _++_, flatMap}
@@ -16,16 +16,16 @@ numberBytes = 8
 abbrev pub byteValues : ℕ
 byteValues = 256
 
--- "its length counted in whole numbers"
+-- how many whole numbers a table has
 abbrev pub wholeNumbers : List ℕ → ℕ
 wholeNumbers table = length table / numberBytes
 
--- "least significant first": so many bytes of a number
+-- so many bytes of a number, from its lowest on
 unfoldable pub bytesOf : (count number : ℕ) → List ℕ
 bytesOf zero number = []
 bytesOf (suc count) number = number % byteValues ∷ bytesOf count (number / byteValues)
 
--- "eight a number"
+-- the bytes of one number
 abbrev pub eightBytes : ℕ → List ℕ
 eightBytes = bytesOf numberBytes
 
@@ -34,7 +34,7 @@ unfoldable pub valueOf : List ℕ → ℕ
 valueOf [] = 0
 valueOf (byte ∷ bytes) = byte + byteValues * valueOf bytes
 
--- "a table is bytes, eight a number": the numbers of a table, so many from its start on, and all that are whole
+-- the numbers that a table's bytes hold: so many from its start on, and all that are whole
 unfoldable pub firstNumbers : ℕ → List ℕ → List ℕ
 firstNumbers zero table = []
 firstNumbers (suc count) table = valueOf (take numberBytes table) ∷ firstNumbers count (drop numberBytes table)
@@ -46,7 +46,7 @@ tableNumbers table = firstNumbers (wholeNumbers table) table
 abbrev pub entryRuling : (file plants segments : List ℕ) → Ruling
 entryRuling file plants segments = quantified file (wholeNumbers plants) (wholeNumbers segments)
 
--- "Acceptance writes the first .. numbers; later entries stay as they were", and so do spare bytes.
+-- Numbers are written from the start of a table; what stands behind them stays, spare bytes too.
 abbrev pub bytesOverwritten : (numbers table : List ℕ) → List ℕ
 bytesOverwritten numbers table = flatMap eightBytes numbers ++ drop (numberBytes * length numbers) table
 

@@ -1,4 +1,4 @@
-// "The plant historian, written in C, calls the library on byte slices."
+// The entry that the historian calls from C, on bytes.
 ghost use Rattle.historian.specs.Tables.{EntryPromise};
 use crate::table::room;
 use crate::table::write_numbers;

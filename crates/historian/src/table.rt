@@ -1,5 +1,5 @@
-// "for the C caller a table is bytes, eight a number, least significant first, its length counted in
-// whole numbers"
+// A table as C lends it: eight bytes to a number, the lowest byte in front. Bytes too few for one more
+// number do not count.
 ghost use mathlib.Core.Path.{_≡_};
 ghost use mathlib.Core.List.{_++_, flatMap};
 ghost use Prim.Native.Nat.{_+_, _*_, _/_, _≤_, min};

@@ -54,7 +54,7 @@ fn print_faulty(place: u64, at: usize, field: Field) -> bool {
         && print_field(field)
 }
 
-// "A refused file prints one line: R, number, place". This is what reading refuses; the accounts are not
+// The line of a refused file, as `rows` prints it. This is what reading refuses; the accounts are not
 // looked at.
 fn print_refusal(file: &[u8]) -> bool {
     let answer = records::read(file).answer;

@@ -1,4 +1,4 @@
-// The inspector's program: it reads a period file on standard input, and prints each number of it with
+// The inspector's program: it takes a period file from standard input, and prints each number with
 // its place, its byte and its field, whether reading refuses it, and where the walk stops.
 //
 // A fault of reading is not the end of the file: it is said on standard error, with what to do next,

@@ -1,5 +1,5 @@
--- "a reader that holds the lent file with its next place walks it number by number. Each step answers as number reading does at that place and
--- moves past the number; at the end or on a fault the place stays."
+-- The inspector's reader (01, "Who calls it"): a lent file, and the byte of the number that comes next. A step says what number reading finds
+-- there. Behind a number the reader stands at the next one; a fault, or the end of the file, leaves it where it is.
 use Prim.Native.Nat.{ℕ}
 use mathlib.Core.List.{List}
 use denote.Ref.{RefT, now}

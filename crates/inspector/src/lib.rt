@@ -41,8 +41,8 @@ impl<'a> Inspector<'a> {
         self.at
     }
 
-    // Answers as number reading does where it stands, and moves past the number. At the end of the file,
-    // and on a fault, it stays.
+    // Tells what stands at its byte, and goes on to the byte behind that number. A fault, or the end of the
+    // file, keeps it where it is.
     pub fn step<'s>(&'s mut self) -> Number
         ensures { λ r. ⌜ finds r ≡ findsNext (now (self .entry)) ⌝ }
         ensures { λ _. ⌜ now (self .exit) ≡ stepped (now (self .entry)) ⌝ }

@@ -30,7 +30,7 @@ pub examples :
     -- 2: a last group that is zero, after one group and after four
     × (readAt (0x80 ∷ 0x00 ∷ []) 0 ≡ fault notShortest)
     × (readAt (0x80 ∷ 0x80 ∷ 0x80 ∷ 0x80 ∷ 0x00 ∷ []) 0 ≡ fault notShortest)
-    -- 3: a fifth group that says more follow, whatever follows; one over the limit; the largest of five groups
+    -- 3: a sixth group is announced, whatever comes then; one over the limit; the largest of five groups
     × (readAt (0x80 ∷ 0x80 ∷ 0x80 ∷ 0x80 ∷ 0x80 ∷ []) 0 ≡ fault tooLarge)
     × (readAt (0x80 ∷ 0x80 ∷ 0x80 ∷ 0x80 ∷ 0x80 ∷ 0x00 ∷ []) 0 ≡ fault tooLarge)
     × (readAt (0x81 ∷ 0xD0 ∷ 0xAC ∷ 0xF3 ∷ 0x0E ∷ []) 0 ≡ fault tooLarge)

@@ -1,4 +1,4 @@
--- The numbers of a file, one after another, "counted from 0".
+-- The numbers of a file, one after another; the first is number 0.
 use Prim.Native.Nat.{ℕ, zero, suc}
 use mathlib.Core.List.{List}
 use Rattle.number.specs.Reading.{Found, number, fault, readAt}

@@ -5,25 +5,25 @@ use mathlib.Core.Bool.{Bool, cond, _&&_}
 use lib.ListN.{length, getD}
 use lib.Dec.{leb, ltb, eqb}
 
--- "At most five groups, at most 4,000,000,000."
+-- the most groups of a number, and its largest value
 abbrev pub mostGroups : ℕ
 mostGroups = 5
 
 abbrev pub largest : ℕ
 largest = 4_000_000_000
 
--- "Numbers stand in groups of seven bits": a group is below the radix
+-- a group has seven bits, so it is below the radix
 abbrev pub groupBits : ℕ
 groupBits = 7
 
 abbrev pub radix : ℕ
 radix = 2 ^ groupBits
 
--- "The top bit is 1 when another group follows."
+-- whether a byte's top bit is set, which announces a further group
 abbrev pub follows : ℕ → Bool
 follows byte = leb radix byte
 
--- "one group in a byte": the seven bits below the top one
+-- the group that a byte holds: the seven bits below the top one
 abbrev pub group : ℕ → ℕ
 group byte = byte % radix
 
@@ -45,12 +45,11 @@ gather zero bytes = long
 gather (suc allowed) [] = cut
 gather (suc allowed) (byte ∷ bytes) = cond (follows byte) (before (group byte) (gather allowed bytes)) (whole (group byte ∷ []))
 
--- "least significant group first"
+-- the value of groups, of which the first counts least
 unfoldable pub value : List ℕ → ℕ
 value [] = 0
 value (g ∷ gs) = value gs * radix + g
 
 -- Not the shortest form: several groups, of which the last is zero.
--- "Only the shortest form is allowed: a number of several groups doesn't end in a zero group."
 unfoldable pub padded : List ℕ → Bool
 padded groups = ltb 1 (length groups) && eqb (getD groups (length groups - 1) 0) 0

@@ -1,4 +1,4 @@
--- Reading the number at a byte of a file, with the faults in 01's order: "a fifth group that says more follow is 3 at once; then 2; then the value".
+-- Reading the number at a byte of a file, with the faults in 01's order: too many groups (3), then the form (2), then the value (3).
 use Prim.Native.Nat.{ℕ, _+_}
 use mathlib.Core.List.{List}
 use mathlib.Core.Bool.{cond}
@@ -7,15 +7,15 @@ use lib.Dec.{leb}
 use Rattle.number.specs.Groups.{Gathering, gather, value, padded, mostGroups, largest}
 use Rattle.number.specs.Groups.Gathering.{whole, cut, long}
 
--- 01, "Numbers of refusal". 1: "file ends inside a number or where one is needed"
+-- The faults by their numbers (01, "Numbers of refusal"). 1: the bytes are at an end, within a number or before it
 abbrev pub ends : ℕ
 ends = 1
 
--- 2: "number not in shortest form"
+-- 2: the number could be written shorter
 abbrev pub notShortest : ℕ
 notShortest = 2
 
--- 3: "fifth group says more follow, or value over 4,000,000,000"
+-- 3: there are more groups than five, or they come to more than the largest value
 abbrev pub tooLarge : ℕ
 tooLarge = 3
 
@@ -28,7 +28,7 @@ pub data Found : Type 0 where
 unfoldable pub formed : List ℕ → Found
 formed groups = cond (padded groups) (fault notShortest) (cond (leb (value groups) largest) (number (value groups) (length groups)) (fault tooLarge))
 
--- What is found of what was gathered: "file ends inside a number or where one is needed", "fifth group says more follow", or what the groups form.
+-- What is found of what was gathered: the end of the file, too many groups, or what the groups form.
 abbrev pub foundOf : Gathering → Found
 foundOf (whole groups) = formed groups
 foundOf cut = fault ends

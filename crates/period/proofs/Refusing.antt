@@ -54,7 +54,7 @@ module _ {file : List ℕ} {tables : Lent} {r : Quantified} {tables' : Lent} (pr
         λ none. promised .hands-back .verdict ∙ ap rulingVerdict (accepted-exactly file plantTable segmentTable .1 none),
       )
 
-  -- "A refusal .. writes neither table."
+  -- a refusal leaves both tables alone
   pub untouched : (number place : ℕ) → said (r .answer) ≡ refuses number place → tables' ≡ tables
   untouched number place told =
       promised .leaves

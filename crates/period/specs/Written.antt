@@ -21,12 +21,12 @@ lent plants segments = record { plants = plants; segments = segments }
 abbrev pub rulingOn : List ℕ → Lent → Ruling
 rulingOn file tables = quantified file (length (tables .plants)) (length (tables .segments))
 
--- "A refusal gives number and place"
+-- What a ruling says to the caller: that the file is accepted, or the number and place of its refusal.
 abbrev pub rulingVerdict : Ruling → Verdict
 rulingVerdict (refusal number place) = refuses number place
 rulingVerdict (accepted plants segments) = accepts
 
--- The numbers that it has for each table. A refusal "writes neither table".
+-- The numbers that it has for each table: none where it refuses.
 abbrev pub plantEntries : Ruling → List ℕ
 plantEntries (refusal number place) = []
 plantEntries (accepted plants segments) = plants
@@ -35,7 +35,7 @@ abbrev pub segmentEntries : Ruling → List ℕ
 segmentEntries (refusal number place) = []
 segmentEntries (accepted plants segments) = segments
 
--- "Acceptance writes the first .. numbers; later entries stay as they were."
+-- Numbers are written from the start of a table, and what stands behind them stays.
 abbrev pub overwritten : List ℕ → List ℕ → List ℕ
 overwritten numbers table = numbers ++ drop (length numbers) table
 

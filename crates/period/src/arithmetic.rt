@@ -18,7 +18,7 @@ pub(crate) fn rounded_up(n: u64, d: u64) -> u64
     if d == 0 { 0 } else { (n + (d - 1)) / d }
 }
 
-// m − n, "or 0 if" n "is larger".
+// m − n, and 0 where n is the larger.
 pub(crate) fn excess(m: u64, n: u64) -> u64
     ensures { λ r. ⌜ r ≡ m - n ⌝ }
 {

@@ -1,4 +1,4 @@
-// "Charge": what the segments' emissions come to for each plant, by the amounts that it brought.
+// Charges: what the segments' emissions come to for each plant, by the amounts that it brought.
 ghost use mathlib.Core.Path.{_≡_};
 ghost use Prim.Native.Nat.{_*_, _≤_};
 ghost use Rattle.number.specs.Groups.{largest};
@@ -10,7 +10,7 @@ use records::Counts;
 use records::Plant;
 use records::Segment;
 
-// "own emissions + all its charges", for each plant.
+// What is associated with each plant: what it emits itself, and what it is charged on its route.
 pub(crate) fn associated_with(
     amounts: &[[u32; Segment::MOST]; Plant::MOST],
     inflows: [u64; Segment::MOST],

@@ -1,4 +1,4 @@
-// "Emissions of an owner": the grams of its lines, added up and rounded up to a kg once.
+// What an owner emits: the grams of its lines, added up, and then rounded up to a kg.
 ghost use mathlib.Core.Path.{_≡_};
 ghost use Prim.Native.Nat.{_+_, _≤_};
 ghost use lib.ListN.{take};

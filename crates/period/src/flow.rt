@@ -1,4 +1,4 @@
-// "Inflow" and "Credit": the plants' amounts on their way, in a table of plants by segments.
+// Inflow and credit: the plants' amounts on their way, in a table of plants by segments.
 //
 // A plant has an amount at the segments of its route and 0 elsewhere. A segment's set tells which
 // plants' routes pass it, also those that bring 0.
@@ -92,7 +92,7 @@ pub(crate) fn work(
     answer
 }
 
-// "Inflow A is the sum over the plants whose route passes"; all others have 0 there.
+// The inflow: what all plants bring. One whose route does not pass has 0 there.
 fn inflow_of(amounts: &[[u32; Segment::MOST]; Plant::MOST], plants: usize, s: usize) -> u64
     requires { ⌜ plants ≤ mostPlants ⌝ }
     requires { ⌜ s < mostSegments ⌝ }
@@ -125,7 +125,7 @@ fn test(own: u64, inflow: u64, outflow: u64, emission: u64) -> Answer
     Answer::Accepted
 }
 
-// "With the plants in rising number": every plant's credit, by the running sums of the amounts.
+// Every plant's credit, plant after plant, by the running sums of the amounts.
 fn credits(
     amounts: &[[u32; Segment::MOST]; Plant::MOST],
     plants: usize,
@@ -156,7 +156,7 @@ fn credits(
     credits
 }
 
-// "bit p − 1 set when plant p's route passes"
+// Whether a set has the plant at an index: whether that bit is set.
 fn has(set: u64, p: usize) -> bool
     requires { ⌜ p < mostPlants ⌝ }
     ensures { λ r. ⌜ r ≡ hasBit set p ⌝ }
@@ -164,7 +164,7 @@ fn has(set: u64, p: usize) -> bool
     set >> p & 1 == 1
 }
 
-// "The credit at the store is the plant's stored amount", for the plants of the store's set.
+// Notes what is credited at a store as stored, for the plants of its set.
 fn store(stored: &mut [u64; Plant::MOST], plants: usize, set: u64, credits: [u64; Plant::MOST])
     requires { ⌜ plants ≤ mostPlants ⌝ }
     requires { ⌜ length (now stored) ≡ mostPlants ⌝ }
@@ -179,7 +179,7 @@ fn store(stored: &mut [u64; Plant::MOST], plants: usize, set: u64, credits: [u64
     }
 }
 
-// "At each later segment of its route it is what the segment before credited", for the plants of a set.
+// Brings what was credited to the next segment, for the plants of a set.
 fn send(
     amounts: &mut [[u32; Segment::MOST]; Plant::MOST],
     plants: usize,

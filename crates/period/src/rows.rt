@@ -1,4 +1,4 @@
-// "Result of a plant" and "Result of a segment": the rows, written into the lent tables.
+// The results of plants and segments: their rows, written into the lent tables.
 ghost use mathlib.Core.Path.{_≡_};
 ghost use mathlib.Core.List.{_++_};
 ghost use Prim.Native.Nat.{_+_, _*_, _≤_};
@@ -18,7 +18,7 @@ pub const PLANT_NUMBERS: usize = 8;
 
 pub const SEGMENT_NUMBERS: usize = 5;
 
-// "one unit a tonne"
+// A unit is a tonne.
 const KG_IN_UNIT: u64 = 1000;
 
 // Writes the rows of so many plants, one after another.

@@ -90,7 +90,7 @@ fn print(reading: Reading) -> bool {
         && io::write_all(STDOUT_FILENO, b"\n")
 }
 
-// "R, number, place"
+// The line of a refused file.
 fn print_refusal(refusal: Refusal) -> bool {
     let reason = refusal.reason;
     io::write_all(STDOUT_FILENO, b"R")

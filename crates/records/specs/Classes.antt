@@ -1,11 +1,11 @@
--- The table of classes: "This table is fixed data of the program."
+-- The table of classes, row by row as 01 has it: nothing in a file changes it.
 use Prim.Native.Nat.{ℕ}
 use mathlib.Core.Bool.{Bool, true, false, _&&_, _||_}
 use mathlib.Core.List.{List, [], _∷_}
 use lib.Dec.{eqb}
 use Rattle.records.specs.declared.class.Class.{Class}
 
--- "owner kind (0 plant, 1 segment)"
+-- what a line's record says of its owner's kind
 abbrev pub plantOwner : ℕ
 plantOwner = 0
 
@@ -38,6 +38,6 @@ abbrev pub allowedBy : List Class → ℕ → ℕ → Bool
 allowedBy [] ownerKind code = false
 allowedBy (class ∷ rest) ownerKind code = eqb (class .code) code && allows class ownerKind || allowedBy rest ownerKind code
 
--- "class (one that the table below allows this owner)"
+-- whether the table has the class for such an owner
 unfoldable pub classAllowed : ℕ → ℕ → Bool
 classAllowed = allowedBy classes

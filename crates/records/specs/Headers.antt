@@ -1,4 +1,4 @@
--- "Header: edition (1), plants P (1 to 16), segments S (1 to 32), lines L (0 to 512)."
+-- The header: the edition, then P, S and L, how many plants, segments and lines follow (01, "The period file").
 use Prim.Native.Nat.{ℕ, _+_}
 use mathlib.Core.List.{List}
 use lib.Dec.{eqb}

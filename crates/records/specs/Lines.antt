@@ -1,4 +1,4 @@
--- "L line records: owner kind ..; owner number ..; class ..; quantity; factor in grams CO2e per unit".
+-- Emission lines: who owns each, its class, and a quantity with the grams of a unit (01, "The period file").
 use Prim.Native.Nat.{ℕ, _+_}
 use mathlib.Core.Bool.{Bool, _&&_, _||_}
 use lib.Dec.{eqb}
@@ -7,22 +7,22 @@ use Rattle.records.specs.declared.counts.Counts.{Counts}
 use Rattle.records.specs.declared.line.Line.{Line}
 use Rattle.records.specs.Classes.{plantOwner, segmentOwner}
 
--- "lines L (0 to 512)"
+-- L: none, or at most so many
 abbrev pub mostLines : ℕ
 mostLines = 512
 
 abbrev pub linesAllowed : ℕ → Bool
 linesAllowed = upTo mostLines
 
--- "factor in grams CO2e per unit (0 to 1,000,000,000)"
+-- the largest factor, in grams of CO2e for a unit
 abbrev pub largestFactor : ℕ
 largestFactor = 1_000_000_000
 
--- "owner kind (0 plant, 1 segment)"
+-- there are owners of two kinds
 abbrev pub ownerKindAllowed : ℕ → Bool
 ownerKindAllowed = upTo segmentOwner
 
--- "owner number (1 to P for a plant, 1 to S for a segment)"
+-- the owner is one of the P plants or of the S segments, by its kind
 abbrev pub ownerAllowed : Counts → (ownerKind owner : ℕ) → Bool
 ownerAllowed counts ownerKind owner =
     eqb ownerKind plantOwner && within 1 (counts .plants) owner || eqb ownerKind segmentOwner && within 1 (counts .segments) owner

@@ -1,4 +1,4 @@
--- The numbers of a period, as a file has them: "Header ..; P plant records ..; S segment records ..; L line records".
+-- The numbers of a period in the order of its file: the header, then the plants, the segments and the lines.
 use Prim.Native.Nat.{ℕ}
 use mathlib.Core.List.{List, [], _∷_, _++_}
 use lib.ListN.{length}
@@ -11,19 +11,19 @@ use Rattle.records.specs.declared.line.Line.{Line}
 use Rattle.records.specs.Headers.{edition}
 use Rattle.records.specs.Periods.{Period, period}
 
--- "edition (1), plants P .., segments S .., lines L"
+-- of the header: the edition, and how many records of each kind follow
 abbrev pub headerNumbersOf : Period → List ℕ
 headerNumbersOf period = edition ∷ length (period .plants) ∷ length (period .segments) ∷ length (period .lines) ∷ []
 
--- "exported kg; first segment ..; origin fraction"
+-- of a plant
 abbrev pub plantNumbersOf : Plant → List ℕ
 plantNumbersOf plant = plant .exported ∷ plant .first ∷ plant .fraction ∷ []
 
--- "kind; metered outflow in kg; next segment"
+-- of a segment
 abbrev pub segmentNumbersOf : Segment → List ℕ
 segmentNumbersOf segment = segment .kind ∷ segment .outflow ∷ segment .next ∷ []
 
--- "owner kind ..; owner number ..; class ..; quantity; factor"
+-- of a line
 abbrev pub lineNumbersOf : Line → List ℕ
 lineNumbersOf line = line .«owner_kind» ∷ line .owner ∷ line .class ∷ line .quantity ∷ line .factor ∷ []
 

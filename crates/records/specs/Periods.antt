@@ -1,4 +1,4 @@
--- "The period file": its records behind the header, number by number.
+-- The period file: its records behind the header, number by number.
 use Prim.Native.Nat.{ℕ, _+_, _*_}
 use mathlib.Core.List.{List}
 use Rattle.fields.specs.declared.reason.Reason.the-variants.{WrongPlant, WrongSegment, WrongLine}
@@ -21,7 +21,7 @@ pub record Period : Type 0 where
   pub segments : List Segment
   pub lines : List Line
 
--- "exported kg; first segment (1 to S); origin fraction in millionths (0 to 1,000,000)"
+-- A plant's record.
 unfoldable pub plant : Counts → Reader Plant
 plant counts = do
   exported ← field WrongPlant anyAmount
@@ -29,7 +29,7 @@ plant counts = do
   fraction ← field WrongPlant fractionAllowed
   return (plantOf exported first fraction)
 
--- "kind; metered outflow in kg; next segment", of the segment with its own number
+-- A segment's record, which is tested by the segment's own number.
 unfoldable pub segment : Counts → ℕ → Reader Segment
 segment counts own = do
   kind ← field WrongSegment kindAllowed
@@ -37,7 +37,7 @@ segment counts own = do
   next ← field WrongSegment (nextAllowed counts own kind)
   return (segmentOf kind outflow next)
 
--- "owner kind ..; owner number ..; class ..; quantity; factor"
+-- A line's record.
 unfoldable pub line : Counts → Reader Line
 line counts = do
   ownerKind ← field WrongLine ownerKindAllowed

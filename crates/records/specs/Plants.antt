@@ -1,26 +1,26 @@
--- "P plant records: exported kg; first segment (1 to S); origin fraction in millionths (0 to 1,000,000)."
+-- Plants: what each exported, where its route starts, and which part of its CO2 is of the origin that counts (01, "The period file").
 use Prim.Native.Nat.{ℕ, _+_}
 use mathlib.Core.Bool.{Bool}
 use Rattle.fields.specs.Ranges.{within, upTo}
 use Rattle.records.specs.declared.counts.Counts.{Counts}
 use Rattle.records.specs.declared.plant.Plant.{Plant}
 
--- "plants P (1 to 16)"
+-- P: at least one plant, and at most so many
 abbrev pub mostPlants : ℕ
 mostPlants = 16
 
 abbrev pub plantsAllowed : ℕ → Bool
 plantsAllowed = within 1 mostPlants
 
--- "in millionths": the whole
+-- the whole, as an origin fraction counts it
 abbrev pub millionths : ℕ
 millionths = 1_000_000
 
--- "first segment (1 to S)"
+-- a route starts at one of the S segments
 abbrev pub firstAllowed : Counts → ℕ → Bool
 firstAllowed counts = within 1 (counts .segments)
 
--- "origin fraction in millionths (0 to 1,000,000)"
+-- from nothing of that origin up to the whole
 abbrev pub fractionAllowed : ℕ → Bool
 fractionAllowed = upTo millionths
 

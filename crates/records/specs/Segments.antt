@@ -1,4 +1,4 @@
--- "S segment records: kind; metered outflow in kg; next segment."
+-- Segments: what kind each is, what its meter showed, and where it leads (01, "The period file").
 use Prim.Native.Nat.{ℕ, suc, _+_}
 use mathlib.Core.Bool.{Bool, _&&_, _||_}
 use lib.Dec.{eqb}
@@ -6,14 +6,14 @@ use Rattle.fields.specs.Ranges.{within}
 use Rattle.records.specs.declared.counts.Counts.{Counts}
 use Rattle.records.specs.declared.segment.Segment.{Segment}
 
--- "segments S (1 to 32)"
+-- S: at least one segment, and at most so many
 abbrev pub mostSegments : ℕ
 mostSegments = 32
 
 abbrev pub segmentsAllowed : ℕ → Bool
 segmentsAllowed = within 1 mostSegments
 
--- "Kinds: 1 pipeline, 2 road, 3 rail, 4 water, 5 intermediate storage, 6 geological store."
+-- The kinds: transport by pipeline (1), on roads, on rails and on water; storage on the way (5); and the geological store (6).
 abbrev pub pipeline : ℕ
 pipeline = 1
 
@@ -26,7 +26,7 @@ store = 6
 abbrev pub kindAllowed : ℕ → Bool
 kindAllowed = within pipeline store
 
--- "Kinds 1 to 5 must name a next segment with a number larger than their own and at most S; kind 6 must have 0."
+-- Every kind but the store leads to a later segment, which has to be there; a store leads nowhere, which 0 says.
 abbrev pub nextAllowed : Counts → (own kind next : ℕ) → Bool
 nextAllowed counts own kind next =
     within pipeline intermediateStorage kind && within (suc own) (counts .segments) next || eqb kind store && eqb next 0

@@ -17,7 +17,7 @@ use Rattle.records.specs.Lines.{mostLines, largestFactor}
 use Rattle.records.specs.Headers.{announced}
 use Rattle.records.specs.Periods.{Period}
 
--- What a header announces: "plants P (1 to 16), segments S (1 to 32), lines L (0 to 512)".
+-- What a header announces: how many records of each kind there may be.
 pub record CountsWithin (counts : Counts) : Type 0 where
   pub some-plants : 1 ≤ counts .plants
   pub most-plants : counts .plants ≤ mostPlants
@@ -33,24 +33,24 @@ mostCounts = announced mostPlants mostSegments mostLines
 abbrev pub countsOf : Period → Counts
 countsOf period = announced (length (period .plants)) (length (period .segments)) (length (period .lines))
 
--- "exported kg; first segment (1 to S); origin fraction in millionths (0 to 1,000,000)", of a period with so many segments
+-- A plant: its route starts at a segment that is there, and no more than the whole is of that origin.
 pub record PlantWithin (counts : Counts) (own : ℕ) (plant : Plant) : Type 0 where
   pub exported : plant .exported ≤ largest
   pub some-first : 1 ≤ plant .first
   pub first : plant .first ≤ counts .segments
   pub fraction : plant .fraction ≤ millionths
 
--- "metered outflow in kg; next segment": whatever the kind, a larger number than its own and at most S, or 0
+-- A segment, whatever its kind: it leads to a later segment that is there, or to none.
 pub record SegmentWithin (counts : Counts) (own : ℕ) (segment : Segment) : Type 0 where
   pub outflow : segment .outflow ≤ largest
   pub next : (segment .next ≡ 0) ⊎ ((own < segment .next) × (segment .next ≤ counts .segments))
 
--- "Kinds 1 to 5 must name a next segment with a number larger than their own and at most S; kind 6 must have 0."
+-- A segment by its kind: a store ends a route, all others lead on.
 pub record KindWithin (counts : Counts) (own : ℕ) (segment : Segment) : Type 0 where
   pub kind : kindAllowed (segment .kind) ≡ true
   pub next : nextAllowed counts own (segment .kind) (segment .next) ≡ true
 
--- "owner number (1 to P for a plant, 1 to S for a segment)"; "factor .. (0 to 1,000,000,000)"
+-- A line: a plant or segment that is there owns it, and its factor is no larger than the limit.
 pub record LineWithin (counts : Counts) (own : ℕ) (line : Line) : Type 0 where
   pub owner-kind : line .«owner_kind» ≤ segmentOwner
   pub some-owner : 1 ≤ line .owner
@@ -59,7 +59,7 @@ pub record LineWithin (counts : Counts) (own : ℕ) (line : Line) : Type 0 where
   pub quantity : line .quantity ≤ largest
   pub factor : line .factor ≤ largestFactor
 
--- "class (one that the table below allows this owner)"
+-- Its class: the table has it for such an owner.
 abbrev pub ClassWithin : ℕ → Line → Type 0
 ClassWithin own line = classAllowed (line .«owner_kind») (line .class) ≡ true
 

@@ -1,4 +1,4 @@
-// Emission lines: owner kind, owner number, class, quantity, factor in grams CO2e per unit.
+// Emission lines: an owner, a class, a quantity and the grams of CO2e that a unit of it stands for.
 ghost use mathlib.Core.Path.{_≡_};
 ghost use Prim.Native.Nat.{_≤_};
 ghost use lib.ListN.{length, take};

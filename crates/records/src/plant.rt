@@ -1,4 +1,4 @@
-// Plants: exported kg, first segment, origin fraction in millionths.
+// Plants: what each exported, where its route starts, and how much of it is of the origin that counts.
 ghost use mathlib.Core.Path.{_≡_};
 ghost use Prim.Native.Nat.{_≤_};
 ghost use Rattle.number.specs.Groups.{largest};

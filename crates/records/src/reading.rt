@@ -1,7 +1,7 @@
 // Reading a period file: from its bytes to the records, or to the first reason to refuse it.
 //
-// The file is read front to back, in stages: the header, the plants, the segments, the lines, and
-// then its end. Each number is tested before the next one is taken.
+// The numbers are taken in their order, in stages: the header, the plants, the segments, the lines, and
+// then the end of the file. Each number is tested before the next one is taken.
 ghost use mathlib.Core.Path.{_≡_};
 ghost use Rattle.fields.specs.Spots.{readsAt};
 ghost use Rattle.fields.specs.Files.{ended};

@@ -1,4 +1,4 @@
-// Segments: kind, metered outflow in kg, next segment.
+// Segments: of which kind each is, what left it by its meter, and where that goes.
 ghost use mathlib.Core.Path.{_≡_};
 ghost use Prim.Native.Nat.{_≤_};
 ghost use lib.ListN.{take};

@@ -1,4 +1,4 @@
-// The program that users run: it reads a period file on standard input, and prints a row for each
+// The program that users run: it takes a period file from standard input, and prints a row for each
 // plant and for each segment, or the one line of a refused file (01, "One whole period").
 //
 // A fault of reading is not the end of the file: it is said on standard error, with what to do next,

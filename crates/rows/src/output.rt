@@ -26,7 +26,7 @@ pub(crate) fn print_answer(file: &[u8]) -> bool {
         && print_rows(b"S", &segment_table[..segment_numbers], SEGMENT_NUMBERS)
 }
 
-// "A refused file prints one line: R, number, place"
+// The line of a refused file: R, then the number of refusal and its place.
 fn print_refusal(refusal: Refusal) -> bool {
     let reason = refusal.reason;
     let place = [refusal.place];
@@ -50,7 +50,7 @@ fn print_rows(letter: &[u8], table: &[u64], fields: usize) -> bool
     true
 }
 
-// "After the letter and the record's number come the fields"
+// A row behind its letter: which record it is, and its numbers.
 fn print_row(letter: &[u8], number: u64, fields: &[u64]) -> bool {
     io::write_all(STDOUT_FILENO, letter)
         && print_number(number)

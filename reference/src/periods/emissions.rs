@@ -74,7 +74,7 @@ mod tests {
         assert_eq!(
             emissions_with(&[(first, 1, 500), (first, 500, 1)]),
             kg([1, 0], [0, 0]),
-            "two lines of 500 g are 1 kg"
+            "half a kg twice is one kg"
         );
         assert_eq!(
             emissions_with(&[(first, 1, 500), (first, 501, 1)]),

@@ -180,7 +180,7 @@ mod tests {
     }
 
     #[test]
-    fn charges_are_counted_in_full_whatever_the_fraction() {
+    fn a_low_fraction_lowers_no_charge() {
         let numbers = [
             1, 1, 1, 1, //
             5000, 1, 500_000, //

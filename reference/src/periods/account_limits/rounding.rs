@@ -1,4 +1,4 @@
-//! Gram totals that are rounded up to a kg once, not line by line.
+//! Gram totals, which are rounded up as a whole.
 
 use super::full_size::{set_grams, through_all_at_limit, LINES, OWNERS_AT_ENDS};
 use crate::periods::records::{Owner, Period};
