@@ -12,6 +12,8 @@ use lib.Seq.{drop-drop}
 use borrow.Author.Tests.{ltb-false, lt-ltb, eq-eqb}
 use Rattle.number.specs.Groups.{largest}
 use Rattle.fields.specs.Readers.{Read, read, refused}
+use Rattle.fields.specs.Tests.{Test, NoneFails, holds}
+use Rattle.fields.proofs.Testing.{none-answers, none-of-both}
 use Rattle.records.specs.declared.line.Line.{Line}
 use Rattle.records.specs.declared.counts.Counts.{Counts}
 use Rattle.records.specs.Periods.{Period, periodFile}
@@ -21,11 +23,11 @@ use Rattle.records.proofs.Within.{read-within}
 use Rattle.accounts.specs.Emissions.{mostGrams, grams, ownedBy, gramsOf}
 use Rattle.accounts.specs.Accounts.{Account, account}
 use Rattle.accounts.specs.Rows.{plantRows, segmentRows}
-use Rattle.accounts.specs.Order.{accepted, Test, NoneFails, holds, lineTests, segmentTests, plantNumbers, segmentNumbers, tableTests}
+use Rattle.accounts.specs.Order.{refusal, accepted, lineTests, segmentTests, plantNumbers, segmentNumbers, tableTests}
 use Rattle.accounts.specs.Quantified.{started, turnsOf, accountsOf, stores, rows, judged, afterReading, quantified}
 use Rattle.accounts.specs.Accepted.{Accepted, held}
 use Rattle.accounts.specs.Shares.{noTurn, accountAt}
-use Rattle.accounts.proofs.Testing.{refusal-not-accepted, none-answers, none-fails, none-of-both}
+use Rattle.accounts.proofs.Testing.{refusal-not-accepted, none-fails}
 use Rattle.accounts.proofs.Passing.{getD-map, turns-length}
 use Rattle.accounts.proofs.OwnersLines.{owner-is, no-grams, grams-with, grams-of-both}
 
@@ -143,7 +145,7 @@ module _
 
   rows-are : rows period (accountsOf period) ≡ accepted plants segments
   unfolding judged
-  rows-are = sym (none-answers (rows period (accountsOf period)) none) ∙ accepting
+  rows-are = sym (none-answers refusal (rows period (accountsOf period)) none) ∙ accepting
 
   -- nor does one of those behind the lines
   none-behind : NoneFails (of-segments ++ of-tables)

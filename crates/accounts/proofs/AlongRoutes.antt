@@ -9,17 +9,19 @@ use native.Mathlib.Decide.{decLe}
 use native.Mathlib.Omega.{arith}
 use lib.Arith.{digits-div}
 use lib.ListN.{length, getD, length-map, List·getD-eq-default}
+use Rattle.fields.specs.Lists.{sum}
+use Rattle.fields.proofs.Sums.{sum-most}
 use Rattle.records.specs.declared.segment.Segment.{Segment}
 use Rattle.records.specs.declared.line.Line.{Line}
 use Rattle.records.specs.Classes.{segmentOwner}
 use Rattle.accounts.specs.Emissions.{emission}
-use Rattle.accounts.specs.Sums.{sum, roundedUp}
+use Rattle.accounts.specs.Sums.{roundedUp}
 use Rattle.accounts.specs.Flow.{Standing, nowhere, passes, brings, passed, Turn, turns, arrived}
 use Rattle.accounts.specs.Accounts.{account, chargeTo, charges}
 use Rattle.accounts.specs.Shares.{noTurn, entering, leaving, afterwards}
 use Rattle.accounts.specs.Routes.{Leg, routeFrom}
 use Rattle.accounts.proofs.OwnersLines.{emission-of-own}
-use Rattle.accounts.proofs.Credits.{sum-most, credited-most, credits-sum}
+use Rattle.accounts.proofs.Credits.{credited-most, credits-sum}
 use Rattle.accounts.proofs.Charges.{charge-nothing}
 use Rattle.accounts.proofs.Passing.{getD-map, passed-at, not-passed-at}
 use Rattle.accounts.proofs.Accepting.{Sound}

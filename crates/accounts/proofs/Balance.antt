@@ -6,9 +6,9 @@ use mathlib.Core.List.{List, [], _∷_, map, zipWith}
 use native.Mathlib.Omega.{arith}
 use lib.ListN.{length, length-map, getD}
 use lib.Seq.{take-all}
+use Rattle.fields.specs.Lists.{sum}
 use Rattle.records.specs.Plants.{noPlant}
 use Rattle.records.specs.Periods.{Period}
-use Rattle.accounts.specs.Sums.{sum}
 use Rattle.accounts.specs.Flow.{Standing, nowhere, atFirst, amounts, credits, sentOn, passed, Turn, arrived}
 use Rattle.accounts.specs.Accounts.{account}
 use Rattle.accounts.specs.Order.{plantNumbers, segmentNumbers}

@@ -5,10 +5,10 @@ use mathlib.Core.List.{List}
 use native.Mathlib.Nat.{le-trans, zero-mul, mul-le-mul-left, div-zero, div-mul-le-self, div-lt-iff-lt-mul, lt-div-mul-add}
 use native.Mathlib.Omega.{arith}
 use lib.ListN.{getD}
+use Rattle.fields.specs.Lists.{sum}
 use Rattle.records.specs.declared.line.Line.{Line}
 use Rattle.records.specs.Classes.{segmentOwner}
 use Rattle.accounts.specs.Emissions.{emission}
-use Rattle.accounts.specs.Sums.{sum}
 use Rattle.accounts.specs.Flow.{Turn}
 use Rattle.accounts.specs.Accounts.{Account, account, charge, chargeTo}
 use Rattle.accounts.specs.Shares.{entering}

@@ -10,8 +10,8 @@ use native.Mathlib.Nat.{mul-lt-mul-of-pos-left, le-of-mul-le-mul-left, lt-of-mul
 use native.Mathlib.Omega.{arith}
 use lib.Count.{ones}
 use lib.ListN.{length}
+use Rattle.fields.specs.Lists.{sum}
 use Rattle.records.specs.declared.line.Line.{Line}
-use Rattle.accounts.specs.Sums.{sum}
 use Rattle.accounts.specs.Flow.{Standing, passes, amounts, Turn}
 use Rattle.accounts.specs.Accounts.{Account, account, charge}
 use Rattle.accounts.specs.Order.{segmentNumbers}

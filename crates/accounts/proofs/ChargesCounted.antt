@@ -6,12 +6,13 @@ use mathlib.Core.List.{List, [], _∷_, map}
 use native.Mathlib.Omega.{arith}
 use lib.ListN.{length, length-map, getD, take, List·getD-map}
 use lib.Seq.{take-all}
+use Rattle.fields.specs.Lists.{sum}
+use Rattle.fields.proofs.Sums.{sum-snoc}
 use Rattle.records.specs.declared.segment.Segment.{Segment}
 use Rattle.records.specs.declared.line.Line.{Line}
 use Rattle.records.specs.Classes.{plantOwner}
 use Rattle.records.specs.Periods.{Period}
 use Rattle.accounts.specs.Emissions.{emission}
-use Rattle.accounts.specs.Sums.{sum}
 use Rattle.accounts.specs.Flow.{Standing, passed, Turn, turns}
 use Rattle.accounts.specs.Accounts.{account, charge, chargeTo, charges}
 use Rattle.accounts.specs.Order.{plantNumbers}
@@ -19,7 +20,6 @@ use Rattle.accounts.specs.Quantified.{started, turnsOf, accountsOf}
 use Rattle.accounts.specs.Accepted.{Accepted, held}
 use Rattle.accounts.specs.RowsAndColumns.{inRow, columnSum, associatedColumn}
 use Rattle.accounts.specs.Shares.{entering, charged, ownEmissions}
-use Rattle.accounts.proofs.Credits.{sum-snoc}
 use Rattle.accounts.proofs.Passing.{passed-length}
 use Rattle.accounts.proofs.Charges.{charge-nothing}
 use Rattle.accounts.proofs.Accepting.{Means, accepted-means}

@@ -1,4 +1,4 @@
--- Laws of sums, of division and rounding, and of credits: each is the plant's proportional part, rounded, and no more than it brought; all
+-- Laws of division and rounding, and of credits: each is the plant's proportional part, rounded, and no more than it brought; all
 -- add up to the outflow.
 use Prim.Native.Nat.{ℕ, zero, suc, _+_, _-_, _*_, _/_, _≤_, _<_}
 use mathlib.Core.Path.{_≡_, refl, sym, ap, _∙_}
@@ -8,28 +8,9 @@ use native.Mathlib.Nat.{add-zero, add-assoc, mul-comm, add-mul, mul-le-mul-left,
 use native.Mathlib.Decide.{decLe}
 use native.Mathlib.Omega.{arith}
 use lib.ListN.{length, getD, take, List·getD-eq-default}
-use Rattle.accounts.specs.Sums.{sum, roundedUp}
+use Rattle.fields.specs.Lists.{sum}
+use Rattle.accounts.specs.Sums.{roundedUp}
 use Rattle.accounts.specs.Flow.{credit, creditsFrom, credits}
-
--- ---- sums
--- where no number is over a bound, their sum is not over the bound times their count
-pub sum-most : (bound : ℕ) (numbers : List ℕ) → ((i : ℕ) → getD numbers i 0 ≤ bound) → sum numbers ≤ length numbers * bound
-unfolding sum
-sum-most bound [] h = omega arith
-sum-most bound (n ∷ ns) h = omega (arith, h 0, sum-most bound ns (λ i. h (suc i)))
-
--- no number is over the sum
-pub part-of-sum : (numbers : List ℕ) (i : ℕ) → getD numbers i 0 ≤ sum numbers
-unfolding sum
-part-of-sum [] i = omega arith
-part-of-sum (n ∷ ns) zero = omega arith
-part-of-sum (n ∷ ns) (suc i) = omega (arith, part-of-sum ns i)
-
--- one number more at the end of a list
-pub sum-snoc : (numbers : List ℕ) (n : ℕ) → sum (numbers ++ n ∷ []) ≡ sum numbers + n
-unfolding sum
-sum-snoc [] n = omega arith
-sum-snoc (m ∷ numbers) n = omega (arith, sum-snoc numbers n)
 
 -- ---- division
 -- it does not turn an order round, also by 0

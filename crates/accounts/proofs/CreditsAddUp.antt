@@ -5,9 +5,9 @@ use Prim.Native.Nat.{ℕ, _<_}
 use mathlib.Core.Path.{_≡_, sym, ap, _∙_}
 use mathlib.Core.List.{List}
 use lib.ListN.{length, getD}
+use Rattle.fields.specs.Lists.{sum}
 use Rattle.records.specs.declared.segment.Segment.{Segment}
 use Rattle.records.specs.Segments.{noSegment}
-use Rattle.accounts.specs.Sums.{sum}
 use Rattle.accounts.specs.Accounts.{account}
 use Rattle.accounts.specs.Order.{segmentNumbers}
 use Rattle.accounts.specs.Accepted.{Accepted, held}

@@ -8,16 +8,17 @@ use Rattle.number.specs.Reading.{reading, formed}
 use Rattle.number.specs.Writing.{writing, written}
 use Rattle.fields.specs.Run.{runOf, run}
 use Rattle.fields.specs.Readers.{each, reads}
+use Rattle.fields.specs.Tests.{testedBy}
+use Rattle.fields.specs.Lists.{sum}
 use Rattle.records.specs.Classes.{plantOwner, classes, classAllowed}
 use Rattle.records.specs.Lines.{lineOf}
 use Rattle.records.specs.Headers.{header}
 use Rattle.records.specs.Periods.{plant, segment, line, records, period, periodFile}
 use Rattle.accounts.specs.Emissions.{chosen, gramsOf, emission}
-use Rattle.accounts.specs.Sums.{sum}
 use Rattle.accounts.specs.Flow.{creditsFrom, passed, turns, arrived}
 use Rattle.accounts.specs.Accounts.{setOf, account}
 use Rattle.accounts.specs.Rows.{plantRows, segmentRows}
-use Rattle.accounts.specs.Order.{refusal, accepted, tested, lineTests, segmentTests}
+use Rattle.accounts.specs.Order.{refusal, accepted, lineTests, segmentTests}
 use Rattle.accounts.specs.Quantified.{accountsOf, rows, judged, quantified}
 
 -- The numbers of 01's whole period, but for those that the cases change: the exports, the outflows, the second kind, and the first line's
@@ -94,7 +95,7 @@ pub examples :
     -- plant table of 15 numbers
     × (quantified whole 15 10 ≡ refusal 14 16)
 unfolding gather value padded reading formed writing written flatMap zipWith classes classAllowed runOf run each reads header plant segment line
-    records period periodFile sum chosen gramsOf emission creditsFrom passed turns arrived setOf account plantRows segmentRows tested lineTests
+    records period periodFile sum chosen gramsOf emission creditsFrom passed turns arrived setOf account plantRows segmentRows testedBy lineTests
     segmentTests accountsOf rows judged quantified
 examples = (refl, refl, refl, refl, refl, refl, refl, refl, refl, refl, refl, refl, refl, refl, refl)
 

@@ -10,7 +10,8 @@ use lib.ListN.{length, getD, drop, List·getD-eq-default}
 use lib.Pow.{pow-mono}
 use lib.Seq.{getD-take, getD-drop}
 use Rattle.number.specs.Groups.{largest}
-use Rattle.fields.specs.Lists.{Each}
+use Rattle.fields.specs.Lists.{sum, Each}
+use Rattle.fields.proofs.Sums.{part-of-sum}
 use Rattle.records.specs.declared.counts.Counts.{Counts}
 use Rattle.records.specs.declared.plant.Plant.{Plant}
 use Rattle.records.specs.Plants.{noPlant, millionths}
@@ -20,7 +21,6 @@ use Rattle.records.specs.Periods.{Period}
 use Rattle.records.specs.Within.{countsOf, PlantWithin}
 use Rattle.records.proofs.Within.{each-at}
 use Rattle.accounts.specs.Emissions.{gramsInKg, gramsOf, emission, ownedBy}
-use Rattle.accounts.specs.Sums.{sum}
 use Rattle.accounts.specs.Flow.{Standing, nowhere, atFirst, brings, Turn, arrived}
 use Rattle.accounts.specs.Accounts.{Account, account, chargeTo, charges}
 use Rattle.accounts.specs.Rows.{kgInUnit, plantRow, associated, segmentRow}
@@ -29,7 +29,7 @@ use Rattle.accounts.specs.Quantified.{started, turnsOf, accountsOf, stor
 use Rattle.accounts.specs.Accepted.{Accepted}
 use Rattle.accounts.specs.RowsAndColumns.{rowAt, inRow, entryBits, Entries}
 use Rattle.accounts.specs.Shares.{turnAt, accountAt, entering, leaving}
-use Rattle.accounts.proofs.Credits.{part-of-sum, up-most, credited-most}
+use Rattle.accounts.proofs.Credits.{up-most, credited-most}
 use Rattle.accounts.proofs.Charges.{charge-within}
 use Rattle.accounts.proofs.Sets.{set-below}
 use Rattle.accounts.proofs.Passing.{getD-map, one-sent, turns-length}

@@ -8,6 +8,7 @@ use mathlib.Core.List.{List, [], _∷_, _++_, map}
 use native.Mathlib.Nat.{mul-le-mul-right}
 use native.Mathlib.Omega.{arith}
 use lib.ListN.{length, getD}
+use Rattle.fields.specs.Lists.{sum}
 use Rattle.records.specs.declared.plant.Plant.{Plant}
 use Rattle.records.specs.declared.line.Line.{Line}
 use Rattle.records.specs.Plants.{noPlant}
@@ -15,7 +16,6 @@ use Rattle.records.specs.Classes.{plantOwner, segmentOwner}
 use Rattle.records.specs.Lines.{lineOf}
 use Rattle.records.specs.Periods.{Period}
 use Rattle.accounts.specs.Emissions.{grams, ownedBy, gramsOf, gramsInKg, emission}
-use Rattle.accounts.specs.Sums.{sum}
 use Rattle.accounts.specs.Flow.{nowhere, Turn}
 use Rattle.accounts.specs.Accounts.{account, charges}
 use Rattle.accounts.specs.Rows.{kgInUnit, plantRow, associated}

@@ -7,14 +7,15 @@ use native.Mathlib.Omega.{arith}
 use Rattle.fields.specs.declared.reason.Reason.the-variants.{BytesAfter, TooManyGrams}
 use Rattle.fields.specs.Readers.{Read, read, refused}
 use Rattle.fields.specs.Reasons.{numberOf}
+use Rattle.fields.specs.Tests.{Test, FirstFails, here, later, endTest, testsOfEach}
 use Rattle.records.specs.declared.line.Line.{Line}
 use Rattle.records.specs.declared.counts.Counts.{Counts}
 use Rattle.records.specs.Periods.{Period}
 use Rattle.records.specs.Within.{countsOf}
 use Rattle.accounts.specs.Accounts.{Account}
-use Rattle.accounts.specs.Order.{refusal, Test, FirstFails, here, later, lineTests, segmentTests, tableTests}
+use Rattle.accounts.specs.Order.{refusal, lineTests, segmentTests, tableTests}
 use Rattle.accounts.specs.Quantified.{accountsOf, rows, judged, afterReading, quantified}
-use Rattle.accounts.specs.AllTests.{countsAt, periodAt, headerTests, plantTests, segmentFieldTests, lineFieldTests, endTest, testsOfEach, readingTests, allTests}
+use Rattle.accounts.specs.AllTests.{numberCount, countsAt, periodAt, headerTests, plantTests, segmentFieldTests, lineFieldTests, readingTests, allTests}
 use Rattle.accounts.proofs.Testing.{first-fails}
 use Rattle.accounts.proofs.Order.{refused-exactly}
 
@@ -93,10 +94,11 @@ module _ (file : List ℕ) where
       let plants = testsOfEach (plantTests file) 0 (countsAt file .plants) in
       let segments = testsOfEach (segmentFieldTests file) 0 (countsAt file .segments) in
       let lines = testsOfEach (lineFieldTests file) 0 (countsAt file .lines) in
-      both 1 (headerTests file) (plants ++ (segments ++ (lines ++ endTest file ∷ []))) of-header
-      (both 1 plants (segments ++ (lines ++ endTest file ∷ [])) (of-each 1 (plantTests file) of-plant 0 (countsAt file .plants))
-      (both 1 segments (lines ++ endTest file ∷ []) (of-each 1 (segmentFieldTests file) of-segment 0 (countsAt file .segments))
-      (both 1 lines (endTest file ∷ []) (of-each 1 (lineFieldTests file) of-line 0 (countsAt file .lines)) (omega arith))))
+      let last = endTest file (numberCount (countsAt file)) in
+      both 1 (headerTests file) (plants ++ (segments ++ (lines ++ last ∷ []))) of-header
+      (both 1 plants (segments ++ (lines ++ last ∷ [])) (of-each 1 (plantTests file) of-plant 0 (countsAt file .plants))
+      (both 1 segments (lines ++ last ∷ []) (of-each 1 (segmentFieldTests file) of-segment 0 (countsAt file .segments))
+      (both 1 lines (last ∷ []) (of-each 1 (lineFieldTests file) of-line 0 (countsAt file .lines)) (omega arith))))
 
   -- so no refusal has it
   pub refusal-numbered :

@@ -6,8 +6,8 @@ use mathlib.Core.List.{List, [], _∷_, _++_, map}
 use native.Mathlib.Omega.{arith}
 use lib.Dec.{eqb}
 use borrow.Author.Tests.{eqb-true}
+use Rattle.fields.specs.Lists.{sum}
 use Rattle.records.specs.declared.line.Line.{Line}
-use Rattle.accounts.specs.Sums.{sum}
 use Rattle.accounts.specs.Emissions.{inKg, grams, ownedBy, chosen, gramsOf, emission}
 
 -- ---- the grams of the lines that are chosen

@@ -5,9 +5,9 @@ use mathlib.Core.Bool.{Bool, true, false}
 use mathlib.Core.List.{List, [], _∷_, map, zipWith}
 use native.Mathlib.Omega.{arith}
 use lib.ListN.{length, length-map, take, getD}
+use Rattle.fields.specs.Lists.{sum}
 use Rattle.records.specs.declared.segment.Segment.{Segment}
 use Rattle.records.specs.Segments.{noSegment}
-use Rattle.accounts.specs.Sums.{sum}
 use Rattle.accounts.specs.Flow.{Standing, nowhere, passes, brings, amounts, credits, sentOn, passed, Turn, turns, arrived}
 use Rattle.accounts.proofs.Credits.{credits-length}
 

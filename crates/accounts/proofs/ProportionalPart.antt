@@ -8,10 +8,10 @@ use mathlib.Core.List.{List}
 use native.Mathlib.Omega.{arith}
 use lib.ListN.{length, getD}
 use borrow.Author.Tests.{ne-eqb}
+use Rattle.fields.specs.Lists.{sum}
 use Rattle.records.specs.Segments.{store, noSegment}
 use Rattle.records.specs.Within.{countsOf, KindWithin}
 use Rattle.records.proofs.Within.{each-at, kind-without-next}
-use Rattle.accounts.specs.Sums.{sum}
 use Rattle.accounts.specs.Flow.{Standing, nowhere, passes, Turn}
 use Rattle.accounts.specs.Order.{plantNumbers}
 use Rattle.accounts.specs.Quantified.{stores}

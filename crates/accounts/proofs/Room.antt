@@ -8,13 +8,14 @@ use lib.ListN.{length}
 use lib.Dec.{ltb}
 use borrow.Author.Tests.{lt-ltb, le-ltb, ltb-true, ltb-false}
 use Rattle.fields.specs.Readers.{Read, read, refused}
+use Rattle.fields.specs.Tests.{Test}
 use Rattle.records.specs.declared.counts.Counts.{Counts}
 use Rattle.records.specs.Plants.{mostPlants}
 use Rattle.records.specs.Segments.{mostSegments}
 use Rattle.records.specs.Periods.{Period, periodFile}
 use Rattle.records.specs.Within.{countsOf}
 use Rattle.records.proofs.Within.{read-within}
-use Rattle.accounts.specs.Order.{Test, tested, lineTests, segmentTests, plantNumbers, segmentNumbers, tableTests}
+use Rattle.accounts.specs.Order.{tested, lineTests, segmentTests, plantNumbers, segmentNumbers, tableTests}
 use Rattle.accounts.specs.Quantified.{accountsOf, rows, judged, afterReading, quantified}
 use Rattle.accounts.specs.Accepted.{Accepted}
 use Rattle.accounts.proofs.Accepting.{accepted-means, accepted-lengths}

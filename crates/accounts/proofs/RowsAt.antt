@@ -6,11 +6,12 @@ use native.Mathlib.Nat.{mul-suc, mul-zero}
 use native.Mathlib.Omega.{arith}
 use lib.ListN.{length, getD, take, drop, length-map, length-drop}
 use lib.Seq.{take-at, take-suc, take-append-le, drop-append-add, drop-append-le}
+use Rattle.fields.specs.Lists.{sum}
+use Rattle.fields.proofs.Sums.{sum-snoc}
 use Rattle.records.specs.declared.plant.Plant.{Plant}
 use Rattle.records.specs.declared.line.Line.{Line}
 use Rattle.records.specs.Plants.{noPlant}
 use Rattle.records.specs.Periods.{Period}
-use Rattle.accounts.specs.Sums.{sum}
 use Rattle.accounts.specs.Flow.{Standing, nowhere, atFirst}
 use Rattle.accounts.specs.Accounts.{Account}
 use Rattle.accounts.specs.Rows.{plantRow, associated, plantRows, segmentRow, segmentRows}
@@ -18,7 +19,6 @@ use Rattle.accounts.specs.Order.{plantNumbers, segmentNumbers}
 use Rattle.accounts.specs.Quantified.{started, accountsOf, stores}
 use Rattle.accounts.specs.RowsAndColumns.{rowAt, inRow, columnSum}
 use Rattle.accounts.specs.Shares.{accountAt}
-use Rattle.accounts.proofs.Credits.{sum-snoc}
 use Rattle.accounts.proofs.Passing.{arrived-length}
 use Rattle.accounts.proofs.Accepting.{Means, accounts-length, account-at}
 

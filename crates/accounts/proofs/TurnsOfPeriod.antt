@@ -8,14 +8,13 @@ use native.Mathlib.Omega.{arith}
 use lib.ListN.{length, length-map, take, getD}
 use lib.Seq.{take-length}
 use borrow.Author.Tests.{eqb-false}
-use Rattle.fields.specs.Lists.{Each}
+use Rattle.fields.specs.Lists.{sum, Each}
 use Rattle.records.specs.declared.counts.Counts.{Counts}
 use Rattle.records.specs.Plants.{noPlant}
 use Rattle.records.specs.Segments.{noSegment}
 use Rattle.records.specs.Periods.{Period}
 use Rattle.records.specs.Within.{PlantWithin, SegmentWithin}
 use Rattle.records.proofs.Within.{each-at}
-use Rattle.accounts.specs.Sums.{sum}
 use Rattle.accounts.specs.Flow.{Standing, nowhere, atFirst, passes, brings, sentOn, passed, Turn, arrived}
 use Rattle.accounts.specs.Accounts.{account}
 use Rattle.accounts.specs.Quantified.{started, stores}

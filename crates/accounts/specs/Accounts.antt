@@ -4,10 +4,11 @@ use mathlib.Core.Bool.{Bool, cond}
 use mathlib.Core.List.{List, [], _∷_, map}
 use lib.Dec.{eqb}
 use lib.ListN.{getD}
+use Rattle.fields.specs.Lists.{sum}
 use Rattle.records.specs.declared.line.Line.{Line}
 use Rattle.records.specs.Classes.{segmentOwner}
 use Rattle.accounts.specs.Emissions.{emission}
-use Rattle.accounts.specs.Sums.{sum, roundedUp}
+use Rattle.accounts.specs.Sums.{roundedUp}
 use Rattle.accounts.specs.Flow.{Standing, passes, amounts, Turn}
 
 -- A segment's account: A, D, E and the set of plants; and the amounts entering, plant by plant.

@@ -1,17 +1,11 @@
--- 01's numbers of refusal and their order once more, without a reader of fields: every test of a file at its place, in order. A test looks up in
--- the file the numbers that it needs; what a number is, and which of the faults 1, 2 and 3 it has, the number layer says (`readAt`).
+-- 01's numbers of refusal and their order once more, without a reader of fields: every test of a file at its place, in order.
 -- `proofs/Order.antt` shows that the answer is that of the first test that fails.
-use Prim.Native.Nat.{ℕ, zero, suc, _+_, _*_}
-use mathlib.Core.Bool.{Bool, false, not}
+use Prim.Native.Nat.{ℕ, suc, _+_, _*_}
 use mathlib.Core.List.{List, [], _∷_, _++_}
-use lib.ListN.{length}
-use lib.Dec.{ltb, eqb}
-use Rattle.number.specs.Reading.{Found}
-use Rattle.number.specs.Reading.Found.{number as oneNumber, fault as oneFault}
-use Rattle.number.specs.Counting.{startOf, numberAt, valueAt}
-use Rattle.fields.specs.declared.reason.Reason.{Reason}
-use Rattle.fields.specs.declared.reason.Reason.the-variants.{Ends, NotShortest, TooLarge, WrongEdition, WrongCount, WrongPlant, WrongSegment, WrongLine, BytesAfter}
-use Rattle.fields.specs.Reasons.{numberOf}
+use lib.Dec.{eqb}
+use Rattle.number.specs.Counting.{valueAt}
+use Rattle.fields.specs.declared.reason.Reason.the-variants.{WrongEdition, WrongCount, WrongPlant, WrongSegment, WrongLine}
+use Rattle.fields.specs.Tests.{Test, numberTests, fieldTests, endTest, listed, testsOfEach}
 use Rattle.records.specs.declared.counts.Counts.{Counts}
 use Rattle.records.specs.declared.plant.Plant.{Plant}
 use Rattle.records.specs.declared.segment.Segment.{Segment}
@@ -22,7 +16,7 @@ use Rattle.records.specs.Classes.{classAllowed}
 use Rattle.records.specs.Lines.{lineFields, linesAllowed, ownerKindAllowed, ownerAllowed, factorAllowed, lineOf}
 use Rattle.records.specs.Headers.{edition, announced, headerFields}
 use Rattle.records.specs.Periods.{Period}
-use Rattle.accounts.specs.Order.{Test, lineTests, segmentTests, tableTests}
+use Rattle.accounts.specs.Order.{lineTests, segmentTests, tableTests}
 use Rattle.accounts.specs.Quantified.{accountsOf}
 
 -- ---- where the records stand: a header, and then P plants, S segments and L lines
@@ -59,11 +53,6 @@ lineAt file index =
     let k = linePlace (countsAt file) index in
     lineOf (valueAt file k) (valueAt file (1 + k)) (valueAt file (2 + k)) (valueAt file (3 + k)) (valueAt file (4 + k))
 
--- what stands at so many indices from one on
-unfoldable pub listed : {A : Type 0} → (ℕ → A) → (from count : ℕ) → List A
-listed at from zero = []
-listed at from (suc count) = at from ∷ listed at (suc from) count
-
 -- the period that these records make
 unfoldable pub periodAt : List ℕ → Period
 periodAt file = record {
@@ -73,23 +62,6 @@ periodAt file = record {
 }
 
 -- ---- the tests
--- 1, 2 and 3: the faults that the number layer finds. A number has at most one.
-abbrev pub isFault : Reason → Found → Bool
-isFault reason (oneNumber value next) = false
-isFault reason (oneFault found) = eqb found (numberOf reason)
-
--- the test of number k for one of them
-abbrev pub faultTest : Reason → List ℕ → ℕ → Test
-faultTest reason file k = record { fails = isFault reason (numberAt file k); reason = reason; place = k }
-
--- for all three, in 01's order
-abbrev pub numberTests : List ℕ → ℕ → List Test
-numberTests file k = faultTest Ends file k ∷ faultTest NotShortest file k ∷ faultTest TooLarge file k ∷ []
-
--- the test of a number's own field
-abbrev pub fieldTests : Reason → (ℕ → Bool) → List ℕ → ℕ → List Test
-fieldTests reason allowed file k = numberTests file k ++ record { fails = not (allowed (valueAt file k)); reason = reason; place = k } ∷ []
-
 -- 4 for the edition, 5 for each of the three counts
 unfoldable pub headerTests : List ℕ → List Test
 headerTests file =
@@ -124,17 +96,6 @@ lineFieldTests file index =
     ++ (numberTests file (3 + k)
     ++ fieldTests WrongLine factorAllowed file (4 + k))))
 
--- 9: more bytes than numbers need, whose place is the count of numbers
-abbrev pub endTest : List ℕ → Test
-endTest file =
-    let count = numberCount (countsAt file) in
-    record { fails = ltb (startOf file count) (length file); reason = BytesAfter; place = count }
-
--- the tests of so many records, one after another, from an index on
-unfoldable pub testsOfEach : (ℕ → List Test) → (from count : ℕ) → List Test
-testsOfEach tests from zero = []
-testsOfEach tests from (suc count) = tests from ++ testsOfEach tests (suc from) count
-
 -- the tests of reading: the fields of all records in their order, then the end of the file
 unfoldable pub readingTests : List ℕ → List Test
 readingTests file =
@@ -143,7 +104,7 @@ readingTests file =
     ++ (testsOfEach (plantTests file) 0 (counts .plants)
     ++ (testsOfEach (segmentFieldTests file) 0 (counts .segments)
     ++ (testsOfEach (lineFieldTests file) 0 (counts .lines)
-    ++ endTest file ∷ [])))
+    ++ endTest file (numberCount counts) ∷ [])))
 
 -- All tests of a file, with tables of so many numbers: those of reading, then the grams line by line (10), the segments one by one (11 to 13),
 -- and the room in both tables (14, 15).

@@ -3,8 +3,9 @@ use Prim.Native.Nat.{ℕ, _*_}
 use mathlib.Core.Bool.{Bool, cond, _&&_}
 use mathlib.Core.List.{List, [], _∷_, map}
 use lib.Dec.{eqb}
+use Rattle.fields.specs.Lists.{sum}
 use Rattle.records.specs.declared.line.Line.{Line}
-use Rattle.accounts.specs.Sums.{sum, roundedUp}
+use Rattle.accounts.specs.Sums.{roundedUp}
 
 -- the most grams that an owner may have
 abbrev pub mostGrams : ℕ

@@ -3,9 +3,9 @@ use Prim.Native.Nat.{ℕ, suc, _+_, _-_, _*_, _/_}
 use mathlib.Core.Bool.{Bool, cond}
 use mathlib.Core.List.{List, [], _∷_, map, zipWith}
 use lib.Dec.{eqb}
+use Rattle.fields.specs.Lists.{sum}
 use Rattle.records.specs.declared.plant.Plant.{Plant}
 use Rattle.records.specs.declared.segment.Segment.{Segment}
-use Rattle.accounts.specs.Sums.{sum}
 
 -- Where a plant is with its CO2: before which segment, 0 when it is past its store, and with what amount.
 pub record Standing : Type 0 where

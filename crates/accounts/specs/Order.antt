@@ -1,14 +1,12 @@
 -- The order of refusals: the tests of a period that was read, one after another.
 use Prim.Native.Nat.{ℕ, suc, _*_}
-use mathlib.Core.Path.{_≡_}
-use mathlib.Core.Bool.{Bool, true, false, cond, _&&_}
+use mathlib.Core.Bool.{_&&_}
 use mathlib.Core.List.{List, [], _∷_}
 use lib.ListN.{take}
 use lib.Dec.{ltb, eqb}
 use Rattle.number.specs.Groups.{largest}
-use Rattle.fields.specs.declared.reason.Reason.{Reason}
 use Rattle.fields.specs.declared.reason.Reason.the-variants.{TooManyGrams, InflowTooLarge, OutflowOverInflow, EmissionWithoutInflow, PlantTableShort, SegmentTableShort}
-use Rattle.fields.specs.Reasons.{numberOf}
+use Rattle.fields.specs.Tests.{Test, testedBy}
 use Rattle.records.specs.declared.line.Line.{Line}
 use Rattle.records.specs.declared.counts.Counts.{Counts}
 use Rattle.accounts.specs.Emissions.{mostGrams, ownedBy, gramsOf}
@@ -19,28 +17,9 @@ pub data Ruling : Type 0 where
   refusal : (number place : ℕ) → Ruling
   accepted : (plants segments : List ℕ) → Ruling
 
--- A test that refuses a period where it fails.
-pub record Test : Type 0 where
-  pub fails : Bool
-  pub reason : Reason
-  pub place : ℕ
-
--- The first test that fails refuses.
-unfoldable pub tested : List Test → Ruling → Ruling
-tested [] ruling = ruling
-tested (test ∷ tests) ruling = cond (test .fails) (refusal (numberOf (test .reason)) (test .place)) (tested tests ruling)
-
--- Which test that is: it fails, and none before it does.
-pub data FirstFails : List Test → (number place : ℕ) → Type 0 where
-  here : {test : Test} {tests : List Test} → test .fails ≡ true → FirstFails (test ∷ tests) (numberOf (test .reason)) (test .place)
-  later :
-      {test : Test} {tests : List Test} {number place : ℕ} → test .fails ≡ false → FirstFails tests number place →
-      FirstFails (test ∷ tests) number place
-
--- None of them fails.
-pub data NoneFails : List Test → Type 0 where
-  end : NoneFails []
-  holds : {test : Test} {tests : List Test} → test .fails ≡ false → NoneFails tests → NoneFails (test ∷ tests)
+-- The first test that fails refuses; where none does, the ruling stands.
+abbrev pub tested : List Test → Ruling → Ruling
+tested = testedBy refusal
 
 -- 10, line by line: the total of the line's owner, this line included
 unfoldable pub lineTests : List Line → (done : ℕ) → List Line → List Test

@@ -5,12 +5,13 @@ use mathlib.Core.Bool.{true, false}
 use mathlib.Core.List.{List, [], _∷_, _++_, map}
 use mathlib.Core.Logic.{_⊎_}
 use lib.ListN.{getD}
+use Rattle.fields.specs.Lists.{sum}
 use Rattle.records.specs.declared.line.Line.{Line}
 use Rattle.records.specs.Segments.{noSegment}
 use Rattle.records.specs.Classes.{plantOwner}
 use Rattle.records.specs.Periods.{Period}
 use Rattle.accounts.specs.Emissions.{emission}
-use Rattle.accounts.specs.Sums.{sum, roundedUp}
+use Rattle.accounts.specs.Sums.{roundedUp}
 use Rattle.accounts.specs.Flow.{Standing, nowhere, passes, amounts, credits, passed, Turn}
 use Rattle.accounts.specs.Accounts.{Account, account, charge}
 use Rattle.accounts.specs.Quantified.{turnsOf}

@@ -1,11 +1,5 @@
 -- The arithmetic of whole numbers that the equations share.
 use Prim.Native.Nat.{ℕ, _+_, _-_, _/_}
-use mathlib.Core.List.{List, [], _∷_}
-
--- All numbers of a list together.
-unfoldable pub sum : List ℕ → ℕ
-sum [] = 0
-sum (n ∷ ns) = n + sum ns
 
 -- n / d rounded up; 0 where d is 0, as the library's n / 0 is.
 abbrev pub roundedUp : ℕ → ℕ → ℕ

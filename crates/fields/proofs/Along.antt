@@ -1,14 +1,16 @@
 -- What is carried along the reading of a file, from field to field: what each field is and where, what is known in the end, and the place and
 -- the byte there. Not the numbers that were taken, nor the tests that are left: these are told by the whole of a reader.
-use Prim.Native.Nat.{ℕ, zero, suc, _+_, _≤_, _<_}
+use Prim.Native.Nat.{ℕ, zero, suc, _+_, _^_, _≤_, _<_}
 use mathlib.Core.Path.{_≡_, refl, ap}
 use mathlib.Core.Bool.{Bool, true}
 use mathlib.Core.List.{List, []}
 use native.Mathlib.Omega.{arith}
 use lib.ListN.{length, drop}
+use Rattle.number.specs.Groups.{radix, largest}
 use Rattle.number.specs.Reading.{readAt, tooLarge}
 use Rattle.number.specs.Reading.Found.{number as oneNumber}
-use Rattle.number.proofs.Laws.{faults}
+use Rattle.number.proofs.Laws.{bounds, faults}
+use Rattle.number.proofs.Writing.{few-bytes}
 use Rattle.fields.specs.declared.reason.Reason.{Reason}
 use Rattle.fields.specs.declared.reason.Reason.the-variants.{BytesAfter}
 use Rattle.fields.specs.Reasons.{numberOf}
@@ -41,6 +43,19 @@ module _ (file : List ℕ) (May : (place at : ℕ) → Reason → Type 0) {A : T
     not-read : {refusal place : ℕ} → Came (refused refusal place) → Ended (refused refusal place)
 
 module _ {file : List ℕ} {May : (place at : ℕ) → Reason → Type 0} where
+  -- one field, whose values all take at most so many bytes
+  pub one-field :
+      {A : Type 0} {P : A → (place at : ℕ) → Type 0} {reason : Reason} {allowed : ℕ → Bool}
+      {then : ℕ → Reader A} {place at : ℕ} (bytes : ℕ) →
+      May place at reason → ((value : ℕ) → value ≤ largest → allowed value ≡ true → (0 < bytes) × (value < radix ^ bytes)) →
+      ((value next : ℕ) → value ≤ largest → allowed value ≡ true → next ≤ at + bytes → Along file May P (then value) (suc place) next) →
+      Along file May P (needs reason allowed then) place at
+  one-field {at} bytes may below rest =
+      needed may (λ value next is passed.
+      let small = bounds file at value next is .small in
+      let (some, few) = below value small passed in
+      rest value next small passed (few-bytes file at value next is bytes some few))
+
   -- one reader after another
   pub one-then :
       {A B : Type 0} {P : A → (place at : ℕ) → Type 0} {Q : B → (place at : ℕ) → Type 0} {first : Reader A} {then : A → Reader B} {place at : ℕ} →

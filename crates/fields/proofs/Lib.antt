@@ -1,16 +1,24 @@
+-- Laws of sums and of ranges.
+pub mod Sums
+pub mod Ranges
 -- A refusal is no acceptance.
 pub mod Answers
 -- What a file's bytes are as a run of numbers, and how a reader goes over it, field by field.
 pub mod Runs
 pub mod FieldByField
 pub mod EndOfFile
--- What the code takes, the numbers of one record, and records one after another.
+-- What the code takes, for one field, the numbers of one record, and records one after another.
 pub mod Takes
+pub mod OneField
 pub mod ByIndex
 pub mod OneRecord
 pub mod Stages
 -- What is known along the reading of a file.
 pub mod Along
 pub mod Consumed
+pub mod Fronts
+-- Tests in their order, and those that a reader asks of a file.
+pub mod Testing
+pub mod Asking
 -- No two outcomes meet a promise.
 pub mod Outcome

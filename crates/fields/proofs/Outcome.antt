@@ -46,7 +46,7 @@ pub numbered-once : (a b : Reason) → numberOf a ≡ numberOf b → a ≡ b
 numbered-once a b e = sym (reason-back a) ∙ ap (λ (n : ℕ). getD numbered n Ends) e ∙ reason-back b
 
 -- ---- so two refusals, two answers or two takings that say the same are the same
-refusal-once : (a b : Refusal) → numberOf (a .reason) ≡ numberOf (b .reason) → a .place ≡ b .place → a ≡ b
+pub refusal-once : (a b : Refusal) → numberOf (a .reason) ≡ numberOf (b .reason) → a .place ≡ b .place → a ≡ b
 refusal-once a b number place = ap₂ (λ (r : Reason) (p : ℕ). record { reason = r; place = p }) (numbered-once (a .reason) (b .reason) number) place
 
 pub said-once : (a b : Answer) → said a ≡ said b → a ≡ b

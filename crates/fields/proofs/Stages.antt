@@ -32,7 +32,7 @@ module _
 
 module _ {A : Type 0} where
   -- records that were read before those of the outcome
-  abbrev behind : List A → Read (List A) → Read (List A)
+  abbrev pub behind : List A → Read (List A) → Read (List A)
   behind done (read records place rest) = read (done ++ records) place rest
   behind done (refused refusal place) = refused refusal place
 
@@ -70,7 +70,67 @@ module _ {A : Type 0} where
     unfolding each
     each-refused refusal at e = after-refused (one own) others place left refusal at e
 
-  -- ---- the loop: so far p of the records are read into the array, and the next one starts at a spot
+  -- ---- so far p of the records are read, and the next one starts at a spot
+  module _ (one : ℕ → Reader A) (fields : ℕ) (file : List ℕ) (start : Spot) (count : ℕ) where
+    pub record Passed (done : List A) (at : Spot) (p : ℕ) : Type 0 where
+      pub counted : length done ≡ p
+      pub within : p ≤ count
+      pub place-is : at .place ≡ start .place + fields * p
+      pub comes-to : readsAt (each one 1 count) file start ≡ behind done (readsAt (each one (suc p) (count - p)) file at)
+
+    -- before the first turn none is read
+    pub none-passed : Passed [] start 0
+    none-passed =
+        let rest : count - 0 ≡ count = omega arith in
+        record {
+          counted = refl;
+          within = omega arith;
+          place-is = omega arith;
+          comes-to = sym (behind-none (readsAt (each one 1 (count - 0)) file start) ∙ ap (λ (n : ℕ). readsAt (each one 1 n) file start) rest);
+        }
+
+  module _
+      {one : ℕ → Reader A} {fields : ℕ} {file : List ℕ} {start : Spot} {count : ℕ} {done : List A} {at : Spot} {p : ℕ}
+      (so-far : Passed one fields file start count done at p) where
+    -- a record is left to read: the outcome of all hangs on it
+    one-left : p < count → readsAt (each one 1 count) file start ≡ behind done (readsAt (each one (suc p) (suc (count - (p + 1)))) file at)
+    one-left more =
+        let rest : count - p ≡ suc (count - (p + 1)) = omega arith in
+        so-far .comes-to ∙ ap (λ (n : ℕ). behind done (readsAt (each one (suc p) n) file at)) rest
+
+    -- it is read
+    pub one-passed :
+        p < count → (what : A) (next' : Spot) → next' .place ≡ at .place + fields → readsAt (one (suc p)) file at ≡ readTo file what next' →
+        Passed one fields file start count (done ++ (what ∷ [])) next' (p + 1)
+    one-passed more what next' moved e =
+        let again : suc (suc p) ≡ suc (p + 1) = omega arith in
+        record {
+          counted = length-append done (what ∷ []) ∙ ap (λ (n : ℕ). n + 1) (so-far .counted);
+          within = omega arith;
+          place-is = omega (arith, moved, so-far .place-is);
+          comes-to =
+              one-left more
+              ∙ ap (behind done) (each-read one (suc p) (count - (p + 1)) (at .place) _ what (next' .place) _ e)
+              ∙ behind-behind done (what ∷ []) (readsAt (each one (suc (suc p)) (count - (p + 1))) file next')
+              ∙ ap (λ (n : ℕ). behind (done ++ (what ∷ [])) (readsAt (each one n (count - (p + 1))) file next')) again;
+        }
+
+    -- it is refused, and so are all
+    pub one-refused :
+        p < count → (refusal : Refusal) → readsAt (one (suc p)) file at ≡ refusedBy refusal → readsAt (each one 1 count) file start ≡ refusedBy refusal
+    one-refused more refusal e =
+        one-left more ∙ ap (behind done) (each-refused one (suc p) (count - (p + 1)) (at .place) _ _ (refusal .place) e)
+
+    -- none is left: all are read
+    pub none-left : count ≤ p → readsAt (each one 1 count) file start ≡ readTo file done at
+    unfolding each reads
+    none-left all =
+        let none : count - p ≡ 0 = omega arith in
+        so-far .comes-to
+        ∙ ap (λ (n : ℕ). behind done (readsAt (each one (suc p) n) file at)) none
+        ∙ ap (λ (l : List A). readTo file l at) (append-nil done)
+
+  -- ---- the loop that keeps them in an array, and nothing behind them
   module _ (one : ℕ → Reader A) (none : A) (room fields : ℕ) (file : List ℕ) (start : Spot) (count : ℕ) where
     -- the place behind the last record
     abbrev pub lastPlace : ℕ
@@ -78,57 +138,32 @@ module _ {A : Type 0} where
 
     pub record Records (array : List A) (at : Spot) (p : ℕ) : Type 0 where
       pub done : List A
-      pub counted : length done ≡ p
-      pub within : p ≤ count
-      pub place-is : at .place ≡ start .place + fields * p
+      pub passed : Passed one fields file start count done at p
       pub array-is : array ≡ done ++ replicate (room - p) none
-      pub comes-to : readsAt (each one 1 count) file start ≡ behind done (readsAt (each one (suc p) (count - p)) file at)
 
     -- before the first turn none is read
     pub none-read : Records (replicate room none) start 0
     none-read =
         let all : room - 0 ≡ room = omega arith in
-        let rest : count - 0 ≡ count = omega arith in
-        record {
-          done = [];
-          counted = refl;
-          within = omega arith;
-          place-is = omega arith;
-          array-is = ap (λ (n : ℕ). replicate n none) (sym all);
-          comes-to = sym (behind-none (readsAt (each one 1 (count - 0)) file start) ∙ ap (λ (n : ℕ). readsAt (each one 1 n) file start) rest);
-        }
+        record { done = []; passed = none-passed one fields file start count; array-is = ap (λ (n : ℕ). replicate n none) (sym all) }
 
   module _
       {one : ℕ → Reader A} {none : A} {room fields : ℕ} {file : List ℕ} {start : Spot} {count : ℕ} {array : List A} {at : Spot} {p : ℕ}
       (so-far : Records one none room fields file start count array at p) where
-    -- a record is left to read: the outcome of the stage hangs on it
-    one-left : p < count → readsAt (each one 1 count) file start ≡ behind (so-far .done) (readsAt (each one (suc p) (suc (count - (p + 1)))) file at)
-    one-left more =
-        let rest : count - p ≡ suc (count - (p + 1)) = omega arith in
-        so-far .comes-to ∙ ap (λ (n : ℕ). behind (so-far .done) (readsAt (each one (suc p) n) file at)) rest
-
-    -- it is read
+    -- the next one is read
     pub next-read :
         p < count → count ≤ room → (what : A) (next' : Spot) → next' .place ≡ at .place + fields →
         readsAt (one (suc p)) file at ≡ readTo file what next' →
         Records one none room fields file start count (set array p what) next' (p + 1)
     next-read more fits what next' moved e =
         let left : room - p ≡ suc (room - (p + 1)) = omega arith in
-        let again : suc (suc p) ≡ suc (p + 1) = omega arith in
         record {
           done = so-far .done ++ (what ∷ []);
-          counted = length-append (so-far .done) (what ∷ []) ∙ ap (λ (n : ℕ). n + 1) (so-far .counted);
-          within = omega arith;
-          place-is = omega (arith, moved, so-far .place-is);
+          passed = one-passed (so-far .passed) more what next' moved e;
           array-is =
               ap (λ (l : List A). set l p what) (so-far .array-is ∙ ap (λ (n : ℕ). so-far .done ++ replicate n none) left)
-              ∙ set-at (so-far .done) none (replicate (room - (p + 1)) none) what p (so-far .counted)
+              ∙ set-at (so-far .done) none (replicate (room - (p + 1)) none) what p (so-far .passed .counted)
               ∙ sym (append-snoc (so-far .done) what (replicate (room - (p + 1)) none));
-          comes-to =
-              one-left more
-              ∙ ap (behind (so-far .done)) (each-read one (suc p) (count - (p + 1)) (at .place) _ what (next' .place) _ e)
-              ∙ behind-behind (so-far .done) (what ∷ []) (readsAt (each one (suc (suc p)) (count - (p + 1))) file next')
-              ∙ ap (λ (n : ℕ). behind (so-far .done ++ (what ∷ [])) (readsAt (each one n (count - (p + 1))) file next')) again;
         }
 
     -- it is refused
@@ -137,8 +172,7 @@ module _ {A : Type 0} where
         Staged file (filled none room) count (lastPlace one none room fields file start count) (readsAt (each one 1 count) file start)
         (record { answer = Refused refusal; array = array; next = at })
     next-refused more refusal e = record {
-      comes-to =
-          one-left more ∙ ap (behind (so-far .done)) (each-refused one (suc p) (count - (p + 1)) (at .place) _ _ (refusal .place) e);
+      comes-to = one-refused (so-far .passed) more refusal e;
       counted = λ is. absurd (refused-not-accepted is);
       filled-up = λ is. absurd (refused-not-accepted is);
       ends = λ is. absurd (refused-not-accepted is);
@@ -149,24 +183,21 @@ module _ {A : Type 0} where
         count ≤ p →
         Staged file (filled none room) count (lastPlace one none room fields file start count) (readsAt (each one 1 count) file start)
         (record { answer = Accepted; array = array; next = at })
-    unfolding each reads filled
+    unfolding filled
     all-read all =
-        let here : p ≡ count = omega (arith, so-far .within) in
-        let none-left : count - p ≡ 0 = omega arith in
+        let passed = so-far .passed in
+        let here : p ≡ count = omega (arith, passed .within) in
         let taken : take count array ≡ so-far .done =
-        ap (take count) (so-far .array-is) ∙ take-at (so-far .done) (replicate (room - p) none) count (so-far .counted ∙ here) in
+        ap (take count) (so-far .array-is) ∙ take-at (so-far .done) (replicate (room - p) none) count (passed .counted ∙ here) in
         let size : room - p ≡ room - length (take count array) =
-        ap (λ (n : ℕ). room - n) (sym (so-far .counted)) ∙ ap (λ (l : List A). room - length l) (sym taken) in
+        ap (λ (n : ℕ). room - n) (sym (passed .counted)) ∙ ap (λ (l : List A). room - length l) (sym taken) in
         record {
-          comes-to =
-              so-far .comes-to
-              ∙ ap (λ (n : ℕ). behind (so-far .done) (readsAt (each one (suc p) n) file at)) none-left
-              ∙ ap (λ (l : List A). readTo file l at) (append-nil (so-far .done) ∙ sym taken);
-          counted = λ _. ap length taken ∙ so-far .counted ∙ here;
+          comes-to = none-left passed all ∙ ap (λ (l : List A). readTo file l at) (sym taken);
+          counted = λ _. ap length taken ∙ passed .counted ∙ here;
           filled-up =
               λ _.
               so-far .array-is
               ∙ ap (λ (l : List A). l ++ replicate (room - p) none) (sym taken)
               ∙ ap (λ (n : ℕ). take count array ++ replicate n none) size;
-          ends = λ _. so-far .place-is ∙ ap (λ (n : ℕ). start .place + fields * n) here;
+          ends = λ _. passed .place-is ∙ ap (λ (n : ℕ). start .place + fields * n) here;
         }

@@ -8,6 +8,8 @@ pub mod Ranges
 pub mod Run
 pub mod Readers
 pub mod Files
+-- its tests, each at its place
+pub mod Tests
 -- a spot in it, and what is taken there
 pub mod Spots
 -- lists of records, and stages that read them

@@ -1,7 +1,12 @@
--- Lists of records: what each of them is, their numbers, and how an array holds them.
-use Prim.Native.Nat.{ℕ, suc, _-_}
+-- Lists: all numbers of one together; of records, what each of them is, their numbers, and how an array holds them.
+use Prim.Native.Nat.{ℕ, suc, _+_, _-_}
 use mathlib.Core.List.{List, [], _∷_, _++_}
 use lib.ListN.{length, replicate}
+
+-- All numbers of a list together.
+unfoldable pub sum : List ℕ → ℕ
+sum [] = 0
+sum (n ∷ ns) = n + sum ns
 
 -- Each record of a list, with its own number from one on, has a property.
 unfoldable pub Each : {A : Type 0} → (ℕ → A → Type 0) → ℕ → List A → Type 0

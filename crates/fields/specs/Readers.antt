@@ -6,6 +6,7 @@ use mathlib.Core.List.{List, [], _∷_}
 use Rattle.fields.specs.declared.reason.Reason.{Reason}
 use Rattle.fields.specs.declared.reason.Reason.the-variants.{Ends}
 use Rattle.fields.specs.Reasons.{numberOf}
+use Rattle.fields.specs.Ranges.{anyAmount}
 use Rattle.fields.specs.Run.{Run, over, fault, number}
 
 -- A reader has read all that it wants; or it needs a number, with the test of its field and the reason to refuse where the value is not
@@ -17,6 +18,10 @@ pub data Reader (A : Type 0) : Type 0 where
 -- One field.
 abbrev pub field : Reason → (ℕ → Bool) → Reader ℕ
 field reason allowed = needs reason allowed return
+
+-- A number without a range of its own, as an amount. The reason that has to stand there is never given.
+abbrev pub anyNumber : Reader ℕ
+anyNumber = field Ends anyAmount
 
 -- One reader after another.
 infixl 20 _>>=_

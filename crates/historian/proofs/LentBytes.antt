@@ -11,8 +11,9 @@ use lib.ListN.{length, drop, length-append, length-drop}
 use lib.Seq.{take-at, drop-at, drop-drop}
 use Rattle.fields.specs.declared.answer.Answer.the-variants.{Accepted as AcceptedAnswer}
 use Rattle.fields.specs.Answers.{accepts, refusalNumber, refusalPlace}
+use Rattle.fields.specs.Tests.{Test, FirstFails, NoneFails}
 use Rattle.accounts.specs.RowsAndColumns.{entryBits, Entries}
-use Rattle.accounts.specs.Order.{Ruling, refusal, accepted, Test, FirstFails, NoneFails}
+use Rattle.accounts.specs.Order.{Ruling, refusal, accepted}
 use Rattle.accounts.specs.Quantified.{rows, quantified}
 use Rattle.accounts.specs.AllTests.{allTests}
 use Rattle.accounts.specs.Accepted.{Accepted}

@@ -4,6 +4,7 @@ use mathlib.Core.Path.{_≡_, refl, ap}
 use mathlib.Core.List.{List}
 use native.Mathlib.Omega.{arith}
 use lib.ListN.{length}
+use Rattle.number.specs.Groups.{largest}
 use Rattle.number.specs.Reading.{Found, number, fault}
 use Rattle.number.specs.Counting.{endOf, startOf, numberAt, valueIn, valueAt}
 use Rattle.number.proofs.Laws.{bounds}
@@ -38,3 +39,12 @@ module _ (file : List ℕ) where
       by-number : (found : Found) → numberAt file k ≡ found → startOf file k ≤ length file → startOf file (suc k) ≤ length file
       by-number (number value next) is before = rw (next-start k is) (bounds file (startOf file k) value next is .inside)
       by-number (fault refusal) is before = rw (same-start k is) before
+
+  -- no value is over the largest
+  pub value-most : (k : ℕ) → valueAt file k ≤ largest
+  unfolding valueAt
+  value-most k = by-number (numberAt file k) refl
+    where
+      by-number : (found : Found) → numberAt file k ≡ found → valueIn found ≤ largest
+      by-number (number value next) is = bounds file (startOf file k) value next is .small
+      by-number (fault refusal) is = omega arith

@@ -11,7 +11,9 @@ use Rattle.fields.specs.Answers.{accepts, refusing, said}
 use Rattle.fields.specs.Readers.{Read, read, refused}
 use Rattle.fields.specs.Files.{readVerdict}
 use Rattle.fields.specs.Lists.{Each, filled}
+use Rattle.fields.specs.Tests.{Test}
 use Rattle.fields.proofs.Answers.{refuses-not-accepts}
+use Rattle.fields.proofs.Testing.{none-answers}
 use Rattle.records.specs.declared.counts.Counts.{Counts}
 use Rattle.records.specs.declared.reading.Reading.{Reading}
 use Rattle.records.specs.Plants.{mostPlants, noPlant}
@@ -22,9 +24,9 @@ use Rattle.records.specs.Within.{LineWithin, mostCounts, countsOf, Within}
 use Rattle.records.specs.Held.{recordsOf, Held}
 use Rattle.records.proofs.Within.{each-on, line-within-most, read-within}
 use Rattle.accounts.specs.Rows.{plantRows, segmentRows}
-use Rattle.accounts.specs.Order.{Ruling, refusal, accepted, Test, tested, segmentTests, plantNumbers, segmentNumbers, tableTests}
+use Rattle.accounts.specs.Order.{Ruling, refusal, accepted, tested, segmentTests, plantNumbers, segmentNumbers, tableTests}
 use Rattle.accounts.specs.Quantified.{accountsOf, stores, rows, judged, afterReading, quantified}
-use Rattle.accounts.proofs.Testing.{none-answers, none-fails}
+use Rattle.accounts.proofs.Testing.{none-fails}
 use Rattle.accounts.proofs.Accepting.{accounts-length}
 use Rattle.accounts.proofs.RowsAt.{stores-length, plant-rows-long, segment-rows-long}
 use Rattle.period.specs.declared.emissions.Emissions.{Emissions}
@@ -50,7 +52,7 @@ refused-promised file why tables tables' finished =
 accepted-tested : (tests : List Test) (ruling : Ruling) → rulingVerdict (tested tests ruling) ≡ accepts → tested tests ruling ≡ ruling
 accepted-tested tests ruling =
     accepted-told (tested tests ruling) (tested tests ruling ≡ ruling)
-    (λ plants segments is. none-answers ruling (none-fails tests ruling plants segments is))
+    (λ plants segments is. none-answers refusal ruling (none-fails tests ruling plants segments is))
 
 -- it says how many numbers the rows have
 rows-written :

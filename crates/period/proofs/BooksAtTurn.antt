@@ -8,7 +8,8 @@ use lib.Seq.{drop-cons, ext-getD}
 use borrow.Author.Tests.{ne-eqb}
 use Rattle.number.specs.Groups.{largest}
 use Rattle.fields.specs.Answers.{refuses}
-use Rattle.fields.specs.Lists.{Each}
+use Rattle.fields.specs.Lists.{sum, Each}
+use Rattle.fields.specs.Tests.{Test}
 use Rattle.records.specs.declared.counts.Counts.{Counts}
 use Rattle.records.specs.declared.line.Line.{Line}
 use Rattle.records.specs.declared.plant.Plant.{Plant}
@@ -17,10 +18,9 @@ use Rattle.records.specs.Plants.{noPlant}
 use Rattle.records.specs.Segments.{mostSegments, noSegment}
 use Rattle.records.specs.Within.{CountsWithin, PlantWithin, SegmentWithin}
 use Rattle.records.proofs.Within.{each-at}
-use Rattle.accounts.specs.Sums.{sum}
 use Rattle.accounts.specs.Flow.{Standing, nowhere, atFirst, passes, brings, amounts as entering, passed, turns, arrived}
 use Rattle.accounts.specs.Accounts.{Account, setOf, account, hasBit}
-use Rattle.accounts.specs.Order.{Ruling, Test, tested, segmentTests}
+use Rattle.accounts.specs.Order.{Ruling, tested, segmentTests}
 use Rattle.accounts.proofs.Sets.{set-has}
 use Rattle.accounts.proofs.Passing.{getD-map}
 use Rattle.accounts.proofs.TurnsOfPeriod.{after as turned-after, after-length as turned-length, after-on as turned-on, turn-is}

@@ -6,7 +6,7 @@ use native.Mathlib.Nat.{zero-mul, zero-div}
 use native.Mathlib.Omega.{arith}
 use lib.ListN.{length, set, take, drop, length-drop, length-set, drop-of-length-le}
 use lib.Seq.{take-suc-set, append-snoc}
-use Rattle.accounts.specs.Sums.{sum}
+use Rattle.fields.specs.Lists.{sum}
 use Rattle.accounts.specs.Flow.{creditsFrom, credits}
 use Rattle.accounts.proofs.Credits.{div-mono}
 

@@ -9,12 +9,12 @@ use lib.Count.{ones}
 use lib.ListN.{length, drop, getD}
 use Rattle.fields.specs.Answers.{accepts, said}
 use Rattle.fields.proofs.Answers.{refuses-not-accepts}
+use Rattle.fields.specs.Lists.{sum}
 use Rattle.records.specs.Plants.{noPlant}
 use Rattle.records.specs.Segments.{noSegment}
 use Rattle.records.specs.Classes.{plantOwner}
 use Rattle.accounts.specs.Emissions.{emission}
 use Rattle.accounts.specs.Flow.{nowhere, passes, Turn}
-use Rattle.accounts.specs.Sums.{sum}
 use Rattle.accounts.specs.Accounts.{hasBit}
 use Rattle.accounts.specs.Order.{Ruling, refusal, accepted, plantNumbers, segmentNumbers}
 use Rattle.accounts.specs.Quantified.{turnsOf, stores}

@@ -6,8 +6,9 @@ use mathlib.Core.List.{List}
 use mathlib.Core.Logic.{_↔_}
 use lib.ListN.{length}
 use Rattle.fields.specs.Answers.{accepts, refuses, said}
+use Rattle.fields.specs.Tests.{Test, FirstFails, NoneFails}
 use Rattle.fields.proofs.Answers.{refuses-not-accepts}
-use Rattle.accounts.specs.Order.{Ruling, refusal, accepted, Test, FirstFails, NoneFails}
+use Rattle.accounts.specs.Order.{Ruling, refusal, accepted}
 use Rattle.accounts.specs.Quantified.{rows}
 use Rattle.accounts.specs.AllTests.{allTests}
 use Rattle.accounts.proofs.Order.{refused-exactly, accepted-is, accepted-exactly}

@@ -6,6 +6,8 @@ use native.Mathlib.Omega.{arith}
 use lib.ListN.{length, length-append, drop, drop-of-length-le, getD}
 use lib.Seq.{drop-cons}
 use borrow.Author.Tests.{eq-eqb}
+use Rattle.fields.specs.Lists.{sum}
+use Rattle.fields.proofs.Sums.{part-of-sum}
 use Rattle.records.specs.declared.counts.Counts.{Counts}
 use Rattle.records.specs.declared.line.Line.{Line}
 use Rattle.records.specs.declared.plant.Plant.{Plant}
@@ -13,14 +15,13 @@ use Rattle.records.specs.declared.segment.Segment.{Segment}
 use Rattle.records.specs.Plants.{mostPlants, noPlant}
 use Rattle.records.specs.Segments.{mostSegments, noSegment}
 use Rattle.records.specs.Periods.{Period}
-use Rattle.accounts.specs.Sums.{sum, roundedUp}
+use Rattle.accounts.specs.Sums.{roundedUp}
 use Rattle.accounts.specs.Flow.{Standing, brings, amounts, Turn, nowhere}
 use Rattle.accounts.specs.Accounts.{Account, account, chargeTo, charges}
 use Rattle.accounts.specs.Rows.{plantRow, associated, plantRows, segmentRows}
 use Rattle.accounts.specs.Order.{plantNumbers, segmentNumbers}
 use Rattle.accounts.specs.Quantified.{turnsOf, accountsOf, stores}
 use Rattle.accounts.specs.Shares.{noTurn}
-use Rattle.accounts.proofs.Credits.{part-of-sum}
 use Rattle.accounts.proofs.Passing.{getD-map}
 use Rattle.accounts.proofs.Accepting.{accounts-length, account-at}
 use Rattle.accounts.proofs.TurnsOfPeriod.{after-all, turn-is, past-store}

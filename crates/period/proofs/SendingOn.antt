@@ -12,13 +12,14 @@ use lib.ListN.{length, take, getD, set, length-set}
 use lib.Seq.{getD-take, getD-set-same, getD-set-other}
 use borrow.Author.Tests.{eqb-true, eqb-false}
 use Rattle.number.specs.Groups.{largest}
+use Rattle.fields.specs.Lists.{sum}
+use Rattle.fields.proofs.Sums.{part-of-sum}
 use Rattle.records.specs.declared.segment.Segment.{Segment}
 use Rattle.records.specs.Segments.{mostSegments}
 use Rattle.records.specs.Within.{SegmentWithin, mostCounts}
-use Rattle.accounts.specs.Sums.{sum}
 use Rattle.accounts.specs.Flow.{credits}
 use Rattle.accounts.specs.Accounts.{hasBit}
-use Rattle.accounts.proofs.Credits.{part-of-sum, credited-most}
+use Rattle.accounts.proofs.Credits.{credited-most}
 use Rattle.period.specs.declared.flow.Due.{Due}
 use Rattle.period.specs.Books.{Books, BooksSized, booksOf, cell, column, Sent, Stored, accountBy, Moved}
 use Rattle.period.specs.Inside.{Small}

@@ -14,7 +14,9 @@ use Rattle.fields.specs.declared.answer.Answer.{Answer}
 use Rattle.fields.specs.declared.answer.Answer.the-variants.{Accepted, Refused}
 use Rattle.fields.specs.declared.answer.Refusal.{Refusal}
 use Rattle.fields.specs.Answers.{refuses, refusing, said}
-use Rattle.fields.specs.Lists.{Each}
+use Rattle.fields.specs.Lists.{sum, Each}
+use Rattle.fields.specs.Tests.{testedBy}
+use Rattle.fields.proofs.Sums.{sum-most}
 use Rattle.records.specs.declared.counts.Counts.{Counts}
 use Rattle.records.specs.declared.line.Line.{Line}
 use Rattle.records.specs.declared.plant.Plant.{Plant}
@@ -24,12 +26,10 @@ use Rattle.records.specs.Segments.{mostSegments, noSegment}
 use Rattle.records.specs.Periods.{Period}
 use Rattle.records.specs.Within.{PlantWithin, SegmentWithin, mostCounts, countsOf}
 use Rattle.records.proofs.Within.{each-on, plant-within-most, segment-within-most}
-use Rattle.accounts.specs.Sums.{sum}
 use Rattle.accounts.specs.Flow.{turns, arrived}
 use Rattle.accounts.specs.Accounts.{account}
 use Rattle.accounts.specs.Order.{Ruling, refusal, accepted, tested, segmentTests, plantNumbers, segmentNumbers, tableTests}
 use Rattle.accounts.specs.Quantified.{accountsOf, rows}
-use Rattle.accounts.proofs.Credits.{sum-most}
 use Rattle.period.specs.declared.emissions.Emissions.{Emissions}
 use Rattle.period.specs.declared.flow.Due.{Due}
 use Rattle.period.specs.Written.{Lent, lent}
@@ -214,7 +214,7 @@ module _
           tables' .segments
           ≡ segmentRowsBy segmentArray (books .inflows) (books .sets) (emissions .segments) (counts .segments) ++ drop (segmentNumbers * counts .segments) (tables .segments) →
           Settled plants segments emissions (said answer) tables tables'
-      unfolding tested rows
+      unfolding testedBy rows
       accepted-rows found tables tables' is passes found-is written written' lines emitted =
           let plant-numbers = plantRowsBy plantArray (books .stored) found (counts .plants) in
           let segment-numbers = segmentRowsBy segmentArray (books .inflows) (books .sets) (emissions .segments) (counts .segments) in

@@ -14,9 +14,10 @@ use Rattle.fields.specs.declared.answer.Answer.the-variants.{Accepted}
 use Rattle.fields.specs.declared.reason.Reason.the-variants.{InflowTooLarge, OutflowOverInflow, EmissionWithoutInflow, PlantTableShort, SegmentTableShort}
 use Rattle.fields.specs.Reasons.{numberOf}
 use Rattle.fields.specs.Answers.{accepts, refuses, said}
+use Rattle.fields.specs.Tests.{Test, testedBy}
 use Rattle.records.specs.declared.counts.Counts.{Counts}
 use Rattle.accounts.specs.Accounts.{Account}
-use Rattle.accounts.specs.Order.{accepted, Test, tested, segmentTests, plantNumbers, segmentNumbers, tableTests}
+use Rattle.accounts.specs.Order.{accepted, tested, segmentTests, plantNumbers, segmentNumbers, tableTests}
 use Rattle.accounts.proofs.Testing.{none-fails}
 use Rattle.accounts.proofs.Accepting.{Sound, sound-each, table-room}
 use Rattle.period.specs.declared.flow.Due.{Due}
@@ -29,18 +30,18 @@ module _ (a : Account) where
 
   -- 11: the inflow is over the largest number
   pub inflow-refused : largest < a .inflow → Passes (refuses (numberOf InflowTooLarge) (a .own)) tests
-  unfolding tested segmentTests
+  unfolding testedBy segmentTests
   inflow-refused over = λ rest ruling. rw (lt-ltb largest (a .inflow) over) refl
 
   -- 12: the outflow is larger than the inflow
   pub outflow-refused : a .inflow ≤ largest → a .inflow < a .outflow → Passes (refuses (numberOf OutflowOverInflow) (a .own)) tests
-  unfolding tested segmentTests
+  unfolding testedBy segmentTests
   outflow-refused fits over = λ rest ruling. rw (le-ltb largest (a .inflow) fits, lt-ltb (a .inflow) (a .outflow) over) refl
 
   -- 13: there is an emission and no inflow
   pub emission-refused :
       a .inflow ≤ largest → a .outflow ≤ a .inflow → 0 < a .emission → a .inflow ≡ 0 → Passes (refuses (numberOf EmissionWithoutInflow) (a .own)) tests
-  unfolding tested segmentTests
+  unfolding testedBy segmentTests
   emission-refused fits out some none =
       λ rest ruling. rw (
         le-ltb largest (a .inflow) fits,
@@ -58,12 +59,12 @@ module _ (a : Account) where
 
   -- none of them
   pub segment-passes : a .inflow ≤ largest → a .outflow ≤ a .inflow → (a .emission ≤ 0) ⊎ (0 < a .inflow) → Passes accepts tests
-  unfolding tested segmentTests
+  unfolding testedBy segmentTests
   segment-passes fits out or = λ rest ruling. rw (le-ltb largest (a .inflow) fits, le-ltb (a .inflow) (a .outflow) out, charged or) refl
 
   -- tests that pass tell what they tested
   pub segment-sound : Passes accepts tests → Sound a
-  unfolding tested segmentTests
+  unfolding testedBy segmentTests
   segment-sound passes = sound-each (a ∷ []) (none-fails tests (accepted [] []) [] [] (passes [] (accepted [] []))) 0 a (omega arith)
 
 -- the tests of the segment whose turn it is, by its figures
@@ -84,24 +85,24 @@ module _ (counts : Counts) (plantTable segmentTable : ℕ) where
 
   -- 14: the plants' table is too short
   pub plants-refused : plantTable < plantNumbers * counts .plants → Passes (refuses (numberOf PlantTableShort) (plantNumbers * counts .plants)) table-tests
-  unfolding tested
+  unfolding testedBy
   plants-refused short = λ rest ruling. rw (lt-ltb plantTable (plantNumbers * counts .plants) short) refl
 
   -- 15: the segments' table is
   pub segments-refused :
       plantNumbers * counts .plants ≤ plantTable → segmentTable < segmentNumbers * counts .segments → Passes (refuses (numberOf SegmentTableShort) (segmentNumbers * counts .segments)) table-tests
-  unfolding tested
+  unfolding testedBy
   segments-refused enough short =
       λ rest ruling. rw (le-ltb plantTable (plantNumbers * counts .plants) enough, lt-ltb segmentTable (segmentNumbers * counts .segments) short) refl
 
   -- neither table is too short
   pub tables-pass : plantNumbers * counts .plants ≤ plantTable → segmentNumbers * counts .segments ≤ segmentTable → Passes accepts table-tests
-  unfolding tested
+  unfolding testedBy
   tables-pass enough enough' =
       λ rest ruling. rw (le-ltb plantTable (plantNumbers * counts .plants) enough, le-ltb segmentTable (segmentNumbers * counts .segments) enough') refl
 
   -- tests that pass leave room for the rows
   pub room-is : Passes accepts table-tests → (plantNumbers * counts .plants ≤ plantTable) × (segmentNumbers * counts .segments ≤ segmentTable)
-  unfolding tested
+  unfolding testedBy
   room-is passes =
       table-room counts plantTable segmentTable (none-fails table-tests (accepted [] []) [] [] (passes [] (accepted [] [])))

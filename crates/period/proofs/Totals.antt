@@ -16,6 +16,7 @@ use Rattle.fields.specs.declared.answer.Answer.the-variants.{Accepted}
 use Rattle.fields.specs.declared.reason.Reason.the-variants.{TooManyGrams}
 use Rattle.fields.specs.Reasons.{numberOf}
 use Rattle.fields.specs.Lists.{Each}
+use Rattle.fields.specs.Tests.{Test, testedBy}
 use Rattle.fields.proofs.Answers.{refused-not-accepted}
 use Rattle.records.specs.declared.counts.Counts.{Counts}
 use Rattle.records.specs.declared.line.Line.{Line}
@@ -26,7 +27,7 @@ use Rattle.records.specs.Lines.{largestFactor, noLine}
 use Rattle.records.specs.Within.{LineWithin, mostCounts}
 use Rattle.records.proofs.Within.{each-at}
 use Rattle.accounts.specs.Emissions.{mostGrams, grams, ownedBy, gramsOf, gramsInKg, inKg, emission}
-use Rattle.accounts.specs.Order.{Ruling, refusal, Test, tested, lineTests}
+use Rattle.accounts.specs.Order.{Ruling, refusal, tested, lineTests}
 use Rattle.accounts.proofs.Credits.{up-most}
 use Rattle.accounts.proofs.OwnersLines.{no-grams, grams-with, grams-of-both}
 use Rattle.period.specs.Inside.{Small, ownerPlace, FewGrams, Rounded, tooManyGrams, AddedUp}
@@ -134,7 +135,7 @@ module _ {lines : List Line} {totals : List ℕ} {l : ℕ} {line : Line} {place 
       (rest : List Test) (ruling : Ruling) →
       tested (lineTests lines 0 lines ++ rest) ruling
       ≡ cond (ltb mostGrams line-total) (refusal (numberOf TooManyGrams) (suc l)) (tested (lineTests lines (suc l) (drop (suc l) lines) ++ rest) ruling)
-  unfolding tested lineTests
+  unfolding testedBy lineTests
   line-tested rest ruling =
       a .passed rest ruling
       ∙ rw (drop-cons lines l noLine (next .more), next .line-is, total-after (line .«owner_kind») (line .owner) place (next .owner), eq-eqb place place refl)
@@ -197,7 +198,7 @@ pub adding-end :
     {lines : List Line} {totals : List ℕ} {l : ℕ} {plants segments : List ℕ} → Adding lines totals l → length lines ≤ l →
     Rounded totals 0 mostPlants plants → Rounded totals mostPlants mostSegments segments →
     AddedUp (record { answer = Accepted; plants = plants; segments = segments }) lines
-unfolding emission tested lineTests
+unfolding emission testedBy lineTests
 adding-end {lines} {totals} {l} a all plants segments = record {
   tests = λ rest ruling. a .passed rest ruling ∙ rw (drop-of-length-le lines all);
   emitted = λ is. record {

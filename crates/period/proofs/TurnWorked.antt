@@ -15,14 +15,15 @@ use borrow.Author.Tests.{ne-eqb}
 use Rattle.fields.specs.declared.answer.Answer.the-variants.{Accepted}
 use Rattle.fields.specs.declared.answer.Answer.{Answer}
 use Rattle.fields.specs.Answers.{accepts}
+use Rattle.fields.specs.Tests.{Test}
+use Rattle.fields.specs.Lists.{sum}
 use Rattle.records.specs.declared.counts.Counts.{Counts}
 use Rattle.records.specs.declared.plant.Plant.{Plant}
 use Rattle.records.specs.declared.segment.Segment.{Segment}
 use Rattle.records.specs.Segments.{mostSegments, noSegment}
-use Rattle.accounts.specs.Sums.{sum}
 use Rattle.accounts.specs.Flow.{Standing, nowhere, passes, amounts as entering, credits, sentOn}
 use Rattle.accounts.specs.Accounts.{Account, setOf, hasBit}
-use Rattle.accounts.specs.Order.{Test, segmentTests}
+use Rattle.accounts.specs.Order.{segmentTests}
 use Rattle.accounts.proofs.Accepting.{Sound}
 use Rattle.accounts.proofs.Sets.{set-same, set-joined}
 use Rattle.accounts.proofs.Passing.{passed-at}

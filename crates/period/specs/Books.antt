@@ -10,14 +10,15 @@ use lib.ListN.{length, take, getD, set}
 use Rattle.fields.specs.declared.answer.Answer.{Answer}
 use Rattle.fields.specs.declared.answer.Answer.the-variants.{Accepted}
 use Rattle.fields.specs.Answers.{Verdict, accepts, refuses, said}
+use Rattle.fields.specs.Tests.{Test}
+use Rattle.fields.specs.Lists.{sum}
 use Rattle.records.specs.declared.plant.Plant.{Plant}
 use Rattle.records.specs.Plants.{mostPlants}
 use Rattle.records.specs.Segments.{mostSegments}
-use Rattle.accounts.specs.Sums.{sum}
 use Rattle.accounts.specs.Emissions.{emission}
 use Rattle.accounts.specs.Flow.{Standing, nowhere, atFirst, brings, credits}
 use Rattle.accounts.specs.Accounts.{Account, setOf, hasBit}
-use Rattle.accounts.specs.Order.{Ruling, refusal, Test, tested, segmentTests}
+use Rattle.accounts.specs.Order.{Ruling, refusal, tested, segmentTests}
 use Rattle.accounts.specs.Quantified.{rows}
 use Rattle.period.specs.declared.flow.Due.{Due}
 

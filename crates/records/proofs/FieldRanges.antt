@@ -1,34 +1,18 @@
 -- What the tests of fields come to, each from the facts that decide it.
 use Prim.Native.Nat.{ℕ, suc, _≤_, _<_}
 use mathlib.Core.Path.{_≡_, refl, sym, _∙_}
-use mathlib.Core.Bool.{Bool, true, false, _&&_, _||_, or-false, and-false, true≢false}
+use mathlib.Core.Bool.{Bool, true, false, _&&_, or-false}
 use mathlib.Core.Logic.{_⊎_, inl, inr, ⊎-elim}
 use native.Mathlib.Decide.{decLe}
 use native.Mathlib.Omega.{arith}
-use lib.Dec.{leb, eqb}
-use borrow.Author.Tests.{le-leb, lt-leb, eq-eqb, ne-eqb, leb-true, eqb-true, eqb-false}
+use lib.Dec.{eqb}
+use borrow.Author.Tests.{eq-eqb, ne-eqb, eqb-true, eqb-false}
 use Rattle.fields.specs.Ranges.{within}
+use Rattle.fields.proofs.Ranges.{in-range, below-range, above-range, either, second, at-most, at-least}
 use Rattle.records.specs.declared.counts.Counts.{Counts}
 use Rattle.records.specs.Segments.{kindAllowed, nextAllowed, pipeline, intermediateStorage, store}
 use Rattle.records.specs.Classes.{plantOwner, segmentOwner}
 use Rattle.records.specs.Lines.{ownerAllowed}
-
--- ---- a range, both ends included
--- a value between its ends is in it
-pub in-range : (low high v : ℕ) → low ≤ v → v ≤ high → within low high v ≡ true
-in-range low high v p q = rw (le-leb low v p, le-leb v high q) refl
-
--- one below is not
-pub below-range : (low high v : ℕ) → v < low → within low high v ≡ false
-below-range low high v p = rw (lt-leb low v p) refl
-
--- nor is one above
-pub above-range : (low high v : ℕ) → high < v → within low high v ≡ false
-above-range low high v p = rw (lt-leb v high p) (and-false (leb low v))
-
--- from its lower end on, only the upper end is left to test
-pub from-low : (low high v : ℕ) → low ≤ v → within low high v ≡ leb v high
-from-low low high v p = rw (le-leb low v p) refl
 
 -- ---- which of two numbers is named first does not matter
 pub eqb-sym : (a b : ℕ) → eqb a b ≡ eqb b a
@@ -39,29 +23,6 @@ eqb-sym a b = by-test (eqb b a) refl
     by-test false e = ne-eqb a b (λ same. eqb-false b a e (sym same))
 
 -- ---- what a test that passed says
--- one of two passed
-either : (a b : Bool) → a || b ≡ true → (a ≡ true) ⊎ (b ≡ true)
-either true b h = inl refl
-either false b h = inr h
-
--- both passed, and so the first
-first : (a b : Bool) → a && b ≡ true → a ≡ true
-first true b h = refl
-first false b h = absurd (true≢false (sym h))
-
--- and the second
-second : (a b : Bool) → a && b ≡ true → b ≡ true
-second true b h = h
-second false b h = absurd (true≢false (sym h))
-
--- a value in a range is no more than its upper end
-pub at-most : (low high v : ℕ) → within low high v ≡ true → v ≤ high
-at-most low high v e = leb-true v high (second (leb low v) (leb v high) e)
-
--- and no less than its lower end
-pub at-least : (low high v : ℕ) → within low high v ≡ true → low ≤ v
-at-least low high v e = leb-true low v (first (leb low v) (leb v high) e)
-
 -- a next segment is one of the period's, or none
 pub next-at-most : (counts : Counts) (own kind next : ℕ) → nextAllowed counts own kind next ≡ true → next ≤ counts .segments
 next-at-most counts own kind next h =

@@ -13,6 +13,7 @@ use Rattle.fields.specs.Ranges.{anyAmount}
 use Rattle.fields.specs.Readers.{return, onward, allowsNext}
 use Rattle.fields.proofs.ByIndex.{number, spelt, spelt-out}
 use Rattle.fields.proofs.OneRecord.{Wants, Allowed}
+use Rattle.fields.proofs.Ranges.{at-least, at-most}
 use Rattle.records.specs.declared.counts.Counts.{Counts}
 use Rattle.records.specs.Plants.{mostPlants, plantsAllowed}
 use Rattle.records.specs.Segments.{mostSegments, segmentsAllowed}
@@ -20,7 +21,6 @@ use Rattle.records.specs.Lines.{mostLines, linesAllowed}
 use Rattle.records.specs.Headers.{edition, announced, header, headerFields}
 use Rattle.records.specs.Within.{CountsWithin}
 use Rattle.records.specs.Inside.{headerReason}
-use Rattle.records.proofs.FieldRanges.{at-least, at-most}
 
 abbrev pub headerReasons : List Reason
 headerReasons = WrongEdition ∷ WrongCount ∷ WrongCount ∷ WrongCount ∷ []

@@ -6,15 +6,14 @@ use mathlib.Core.Bool.{Bool, true}
 use mathlib.Core.List.{List}
 use native.Mathlib.Omega.{arith}
 use borrow.Author.Tests.{leb-true, eqb-true}
-use Rattle.number.specs.Groups.{radix, mostGroups, largest}
-use Rattle.number.proofs.Laws.{bounds}
-use Rattle.number.proofs.Writing.{few-bytes}
+use Rattle.number.specs.Groups.{mostGroups}
 use Rattle.fields.specs.declared.reason.Reason.{Reason}
 use Rattle.fields.specs.declared.reason.Reason.the-variants.{WrongEdition, WrongCount, WrongPlant, WrongSegment, WrongLine}
 use Rattle.fields.specs.Reasons.{numberOf}
 use Rattle.fields.specs.Readers.{Reader, needs}
 use Rattle.fields.specs.Lists.{Each}
-use Rattle.fields.proofs.Along.{Along, done, needed, one-then, along-on, so-many}
+use Rattle.fields.proofs.Along.{Along, done, one-field, one-then, along-on, so-many}
+use Rattle.fields.proofs.Ranges.{at-least, at-most}
 use Rattle.records.specs.declared.counts.Counts.{Counts}
 use Rattle.records.specs.declared.segment.Segment.{Segment}
 use Rattle.records.specs.declared.line.Line.{Line}
@@ -25,7 +24,7 @@ use Rattle.records.specs.Lines.{mostLines, lineFields, lineBytes, larges
 use Rattle.records.specs.Headers.{edition, header, headerFields, headerBytes}
 use Rattle.records.specs.Periods.{Period, plant, segment, line, records, period, mostBytes}
 use Rattle.records.specs.Within.{CountsWithin, countsOf, PlantWithin, SegmentWithin, KindWithin, LineWithin, ClassWithin}
-use Rattle.records.proofs.FieldRanges.{at-least, at-most, next-at-most, next-is, owner-at-most, owner-plant, owner-segment, some-owner}
+use Rattle.records.proofs.FieldRanges.{next-at-most, next-is, owner-at-most, owner-plant, owner-segment, some-owner}
 use Rattle.records.proofs.Classes.{code-at-most}
 
 -- ---- the places and the reasons of fields
@@ -91,19 +90,6 @@ abbrev pub PeriodRead : Period → (place at : ℕ) → Type 0
 PeriodRead what place at = ((h : Counts) × Holds h what) × (at ≤ mostBytes)
 
 module _ (file : List ℕ) where
-  -- one field, whose values all take at most so many bytes
-  one-field :
-      {May : (place at : ℕ) → Reason → Type 0} {A : Type 0} {P : A → (place at : ℕ) → Type 0} {reason : Reason} {allowed : ℕ → Bool}
-      {then : ℕ → Reader A} {place at : ℕ} (bytes : ℕ) →
-      May place at reason → ((value : ℕ) → value ≤ largest → allowed value ≡ true → (0 < bytes) × (value < radix ^ bytes)) →
-      ((value next : ℕ) → value ≤ largest → allowed value ≡ true → next ≤ at + bytes → Along file May P (then value) (suc place) next) →
-      Along file May P (needs reason allowed then) place at
-  one-field {at} bytes may below rest =
-      needed may (λ value next is passed.
-      let small = bounds file at value next is .small in
-      let (some, few) = below value small passed in
-      rest value next small passed (few-bytes file at value next is bytes some few))
-
   -- the header
   pub header-along : Along file (Placed HeaderField) HeaderRead header 0 0
   unfolding header

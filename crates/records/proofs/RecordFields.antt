@@ -14,6 +14,7 @@ use Rattle.fields.specs.Ranges.{anyAmount}
 use Rattle.fields.specs.Readers.{return, onward, allowsNext}
 use Rattle.fields.proofs.ByIndex.{number, spelt, spelt-out}
 use Rattle.fields.proofs.OneRecord.{Wants, Allowed}
+use Rattle.fields.proofs.Ranges.{at-most}
 use Rattle.records.specs.declared.counts.Counts.{Counts}
 use Rattle.records.specs.Plants.{plantFields, millionths, firstAllowed, fractionAllowed, plantOf}
 use Rattle.records.specs.Segments.{mostSegments, segmentFields, pipeline, store, kindAllowed, nextAllowed, segmentOf}
@@ -21,7 +22,7 @@ use Rattle.records.specs.Classes.{classes, segmentOwner, classAllowed}
 use Rattle.records.specs.Lines.{lineFields, largestFactor, ownerKindAllowed, ownerAllowed, factorAllowed, lineOf}
 use Rattle.records.specs.Periods.{plant, segment, line}
 use Rattle.records.specs.Within.{CountsWithin}
-use Rattle.records.proofs.FieldRanges.{at-most, next-at-most, owner-at-most}
+use Rattle.records.proofs.FieldRanges.{next-at-most, owner-at-most}
 use Rattle.records.proofs.Classes.{code-at-most}
 
 module _ (counts : Counts) where

@@ -11,6 +11,7 @@ use Rattle.fields.specs.Run.{Run}
 use Rattle.fields.specs.Readers.{read}
 use Rattle.fields.specs.Lists.{Each}
 use Rattle.fields.proofs.Along.{Ended, none-left, comes-to, at-end}
+use Rattle.fields.proofs.Ranges.{at-least, at-most}
 use Rattle.records.specs.declared.counts.Counts.{Counts}
 use Rattle.records.specs.declared.plant.Plant.{Plant}
 use Rattle.records.specs.declared.segment.Segment.{Segment}
@@ -18,7 +19,7 @@ use Rattle.records.specs.declared.line.Line.{Line}
 use Rattle.records.specs.Segments.{pipeline, intermediateStorage, store}
 use Rattle.records.specs.Periods.{Period, periodFile}
 use Rattle.records.specs.Within.{mostCounts, CountsWithin, PlantWithin, SegmentWithin, KindWithin, LineWithin, Within}
-use Rattle.records.proofs.FieldRanges.{at-least, at-most, next-after}
+use Rattle.records.proofs.FieldRanges.{next-after}
 use Rattle.records.proofs.PeriodAlong.{PeriodField, Placed, Holds, PeriodRead, period-along}
 
 -- ---- the record at an index of a list, of which each has a property

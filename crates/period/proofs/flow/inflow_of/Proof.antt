@@ -6,7 +6,7 @@ use native.Mathlib.Numerals.{add-one}
 use native.Mathlib.Omega.{arith}
 use lib.ListN.{drop}
 use denote.Ref.{now}
-use Rattle.accounts.specs.Sums.{sum}
+use Rattle.fields.specs.Lists.{sum}
 use Rattle.period.specs.Books.{cell, column}
 use Rattle.period.proofs.Crediting.{Next}
 use Rattle.period.proofs.Columns.{column-next, column-end}

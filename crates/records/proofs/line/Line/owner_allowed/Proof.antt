@@ -2,7 +2,8 @@
 use mathlib.Core.Path.{sym, _∙_}
 use native.Mathlib.Omega.{arith}
 use borrow.Author.Tests.{lt-leb}
-use Rattle.records.proofs.FieldRanges.{owner-plant, owner-segment, owner-neither, from-low, below-range}
+use Rattle.fields.proofs.Ranges.{from-low, below-range}
+use Rattle.records.proofs.FieldRanges.{owner-plant, owner-segment, owner-neither}
 use Rattle.records.proofs.line.Line.owner_allowed.Statement.{statement}
 use Rattle.records.proofs.line.Line.owner_allowed.Tie as tie
 

@@ -2,8 +2,8 @@
 use mathlib.Core.Path.{sym, _∙_}
 use native.Mathlib.Omega.{arith}
 use borrow.Author.Tests.{lt-leb}
+use Rattle.fields.proofs.Ranges.{from-low, below-range}
 use Rattle.records.specs.Plants.{mostPlants}
-use Rattle.records.proofs.FieldRanges.{from-low, below-range}
 use Rattle.records.proofs.plant.Plant.count_allowed.Statement.{statement}
 use Rattle.records.proofs.plant.Plant.count_allowed.Tie as tie
 

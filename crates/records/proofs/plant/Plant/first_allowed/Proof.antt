@@ -2,7 +2,7 @@
 use mathlib.Core.Path.{sym, _∙_}
 use native.Mathlib.Omega.{arith}
 use borrow.Author.Tests.{lt-leb}
-use Rattle.records.proofs.FieldRanges.{from-low, below-range}
+use Rattle.fields.proofs.Ranges.{from-low, below-range}
 use Rattle.records.proofs.plant.Plant.first_allowed.Statement.{statement}
 use Rattle.records.proofs.plant.Plant.first_allowed.Tie as tie
 

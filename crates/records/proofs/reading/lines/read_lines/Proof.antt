@@ -33,7 +33,7 @@ read-line-requires : tie.Need-read-line-requires Inv-loop μ-loop
 read-line-requires c κs =
     let s = c .before .before .before .before in
     let l = c .before .loop in
-    (s .pre .0, omega (arith, s .pre, l .inv .place-is, l .inv .within))
+    (s .pre .0, omega (arith, s .pre, l .inv .passed .place-is, l .inv .passed .within))
 
 enum-known-refusal : tie.Need-enum-known-refusal Inv-loop μ-loop
 enum-known-refusal c = search needs
@@ -49,17 +49,17 @@ enum-known-line c = search needs
 mul-lines : tie.Need-mul-lines Inv-loop μ-loop
 mul-lines c =
     let s = c .before .before .before .before .before .before .before .before in
-    omega (arith, c .before .before .before .before .before .loop .inv .within, s .pre .0)
+    omega (arith, c .before .before .before .before .before .loop .inv .passed .within, s .pre .0)
 
 array-set-from-lines : tie.Need-array-set-from-lines Inv-loop μ-loop
 array-set-from-lines c =
     let s = c .before .before .before .before .before .before .before .before in
-    omega (arith, c .before .before .before .before .before .loop .inv .within, s .pre .0)
+    omega (arith, c .before .before .before .before .before .loop .inv .passed .within, s .pre .0)
 
 add-l : tie.Need-add-l Inv-loop μ-loop
 add-l c =
     let s = c .before .before .before .before .before .before .before .before in
-    omega (arith, c .before .before .before .before .before .loop .inv .within, s .pre .0)
+    omega (arith, c .before .before .before .before .before .loop .inv .passed .within, s .pre .0)
 
 loop-less : tie.Need-loop-less Inv-loop μ-loop
 loop-less c = omega arith

@@ -33,7 +33,7 @@ read-plant-requires : tie.Need-read-plant-requires Inv-loop μ-loop
 read-plant-requires c κs =
     let s = c .before .before .before .before in
     let l = c .before .loop in
-    (s .pre .0, omega (arith, s .pre, l .inv .place-is, l .inv .within))
+    (s .pre .0, omega (arith, s .pre, l .inv .passed .place-is, l .inv .passed .within))
 
 enum-known-refusal : tie.Need-enum-known-refusal Inv-loop μ-loop
 enum-known-refusal c = search needs
@@ -49,17 +49,17 @@ enum-known-plant c = search needs
 mul-plants : tie.Need-mul-plants Inv-loop μ-loop
 mul-plants c =
     let s = c .before .before .before .before .before .before .before .before in
-    omega (arith, c .before .before .before .before .before .loop .inv .within, s .pre .0)
+    omega (arith, c .before .before .before .before .before .loop .inv .passed .within, s .pre .0)
 
 array-set-from-plants : tie.Need-array-set-from-plants Inv-loop μ-loop
 array-set-from-plants c =
     let s = c .before .before .before .before .before .before .before .before in
-    omega (arith, c .before .before .before .before .before .loop .inv .within, s .pre .0)
+    omega (arith, c .before .before .before .before .before .loop .inv .passed .within, s .pre .0)
 
 add-p : tie.Need-add-p Inv-loop μ-loop
 add-p c =
     let s = c .before .before .before .before .before .before .before .before in
-    omega (arith, c .before .before .before .before .before .loop .inv .within, s .pre .0)
+    omega (arith, c .before .before .before .before .before .loop .inv .passed .within, s .pre .0)
 
 loop-less : tie.Need-loop-less Inv-loop μ-loop
 loop-less c = omega arith

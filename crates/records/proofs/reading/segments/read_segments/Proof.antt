@@ -31,13 +31,13 @@ loop-holds c =
     (none-read (segment (a .counts)) noSegment mostSegments segmentFields (now (a .file)) (a .start) (a .counts .segments))
 
 add-read-segment : tie.Need-add-read-segment Inv-loop μ-loop
-add-read-segment c = omega (arith, c .before .loop .inv .within, c .before .before .before .before .pre .0)
+add-read-segment c = omega (arith, c .before .loop .inv .passed .within, c .before .before .before .before .pre .0)
 
 read-segment-requires : tie.Need-read-segment-requires Inv-loop μ-loop
 read-segment-requires c κs =
     let s = c .before .before .before .before in
     let l = c .before .loop in
-    (s .pre .0, omega (arith, s .pre, l .inv .place-is, l .inv .within))
+    (s .pre .0, omega (arith, s .pre, l .inv .passed .place-is, l .inv .passed .within))
 
 enum-known-refusal : tie.Need-enum-known-refusal Inv-loop μ-loop
 enum-known-refusal c = search needs
@@ -53,17 +53,17 @@ enum-known-segment c = search needs
 mul-segments : tie.Need-mul-segments Inv-loop μ-loop
 mul-segments c =
     let s = c .before .before .before .before .before .before .before .before in
-    omega (arith, c .before .before .before .before .before .loop .inv .within, s .pre .0)
+    omega (arith, c .before .before .before .before .before .loop .inv .passed .within, s .pre .0)
 
 array-set-from-segments : tie.Need-array-set-from-segments Inv-loop μ-loop
 array-set-from-segments c =
     let s = c .before .before .before .before .before .before .before .before in
-    omega (arith, c .before .before .before .before .before .loop .inv .within, s .pre .0)
+    omega (arith, c .before .before .before .before .before .loop .inv .passed .within, s .pre .0)
 
 add-s : tie.Need-add-s Inv-loop μ-loop
 add-s c =
     let s = c .before .before .before .before .before .before .before .before in
-    omega (arith, c .before .before .before .before .before .loop .inv .within, s .pre .0)
+    omega (arith, c .before .before .before .before .before .loop .inv .passed .within, s .pre .0)
 
 loop-less : tie.Need-loop-less Inv-loop μ-loop
 loop-less c = omega arith

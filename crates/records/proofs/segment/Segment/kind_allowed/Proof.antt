@@ -1,8 +1,8 @@
 -- `records::segment::Segment::kind_allowed` meets its contract: below, in and above the range of kinds. Assumes nothing.
 use mathlib.Core.Path.{sym}
 use native.Mathlib.Omega.{arith}
+use Rattle.fields.proofs.Ranges.{in-range, below-range, above-range}
 use Rattle.records.specs.Segments.{pipeline, store}
-use Rattle.records.proofs.FieldRanges.{in-range, below-range, above-range}
 use Rattle.records.proofs.segment.Segment.kind_allowed.Statement.{statement}
 use Rattle.records.proofs.segment.Segment.kind_allowed.Tie as tie
 

@@ -3,7 +3,8 @@ use Prim.Native.Nat.{suc}
 use mathlib.Core.Path.{sym, _∙_}
 use native.Mathlib.Omega.{arith}
 use borrow.Author.Tests.{le-ltb}
-use Rattle.records.proofs.FieldRanges.{next-none, next-after, next-below, next-above, from-low, below-range}
+use Rattle.fields.proofs.Ranges.{from-low, below-range}
+use Rattle.records.proofs.FieldRanges.{next-none, next-after, next-below, next-above}
 use Rattle.records.proofs.segment.Segment.next_allowed.Statement.{statement}
 use Rattle.records.proofs.segment.Segment.next_allowed.Tie as tie
 
