@@ -2,7 +2,9 @@
 mod Bytes
 -- The tables of numbers that are lent to the call below, and the historian's tables.
 mod Tables
--- No two outcomes meet the promise.
+-- What the answer to a sheet leaves.
+mod Sheets
+-- No two outcomes meet a promise.
 pub mod Outcome
 -- The tables of the C caller, read as numbers.
 pub mod LentBytes

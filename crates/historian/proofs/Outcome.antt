@@ -1,8 +1,10 @@
--- No two outcomes meet the promise of the call from C.
+-- No two outcomes meet a promise of the calls from C.
 use Prim.Native.Nat.{ℕ}
 use mathlib.Core.Path.{_≡_, sym, ap, _∙_}
 use mathlib.Core.List.{List}
+use Rattle.meter.specs.declared.figures.Figures.{Figures}
 use Rattle.historian.specs.Tables.{Outcome, EntryPromise}
+use Rattle.historian.specs.Sheets.{DaysOutcome, DaysEntryPromise}
 
 -- an outcome by its parts
 abbrev made : (result place : ℕ) (plants segments : List ℕ) → Outcome
@@ -15,3 +17,14 @@ one-outcome file plants segments a b p q =
     ∙ ap (λ (x : ℕ). made (b .result) x (a .plants) (a .segments)) (p .place ∙ sym (q .place))
     ∙ ap (λ (x : List ℕ). made (b .result) (b .place) x (a .segments)) (p .plants-after ∙ sym (q .plants-after))
     ∙ ap (made (b .result) (b .place) (b .plants)) (p .segments-after ∙ sym (q .segments-after))
+
+-- `steeplecuff_days`: so are two of one sheet and the same figures before
+pub one-days-outcome :
+    (sheet : List ℕ) (before : Figures) (a b : DaysOutcome) → DaysEntryPromise sheet before a → DaysEntryPromise sheet before b → a ≡ b
+one-days-outcome sheet before a b p q =
+    ap (λ (x : ℕ). left x (a .place) (a .figures)) (p .result ∙ sym (q .result))
+    ∙ ap (λ (x : ℕ). left (b .result) x (a .figures)) (p .place ∙ sym (q .place))
+    ∙ ap (left (b .result) (b .place)) (p .figures-after ∙ sym (q .figures-after))
+  where
+    left : (result place : ℕ) (figures : Figures) → DaysOutcome
+    left result place figures = record { result = result; place = place; figures = figures }

@@ -1,8 +1,10 @@
-// The entry for the plant historian, written in C (01, "Who calls it").
+// The entries for the plant historian, written in C (01, "Who calls it"; 02, T-01).
 //
-// The layer below answers a file and fills tables of numbers. The historian lends tables of bytes: here
-// the numbers go into them. What they hold afterwards is said by the definitions in specs/.
+// The layers below answer a period file and a meter's sheet. The historian lends tables of bytes and
+// numbers: here the answers go into them. What they hold afterwards is said by the definitions in specs/.
 pub mod call;
+pub mod sheet;
 mod table;
 
 pub use crate::call::steeplecuff_quantify;
+pub use crate::sheet::steeplecuff_days;

@@ -1,0 +1,24 @@
+-- The promise of the call from C for a meter's sheet (02, T-01).
+use Prim.Native.Nat.{ℕ}
+use mathlib.Core.Path.{_≡_}
+use mathlib.Core.List.{List}
+use Rattle.fields.specs.Answers.{refusalNumber, refusalPlace}
+use Rattle.meter.specs.declared.figures.Figures.{Figures}
+use Rattle.meter.specs.Days.{SheetAnswer, figures, refusal, sheetVerdict, meterDays}
+
+-- What stands in the caller's figures afterwards: those of an accepted sheet; a refusal leaves what was there.
+abbrev pub figuresAfter : SheetAnswer → Figures → Figures
+figuresAfter (figures found) before = found
+figuresAfter (refusal number place) before = before
+
+-- What a call leaves to its caller.
+pub record DaysOutcome : Type 0 where
+  pub result : ℕ
+  pub place : ℕ
+  pub figures : Figures
+
+-- The promise of the call: the number of refusal and the place, 0 and 0 where the sheet is accepted, and the figures.
+pub record DaysEntryPromise (sheet : List ℕ) (before : Figures) (outcome : DaysOutcome) : Type 0 where
+  pub result : outcome .result ≡ refusalNumber (sheetVerdict (meterDays sheet))
+  pub place : outcome .place ≡ refusalPlace (sheetVerdict (meterDays sheet))
+  pub figures-after : outcome .figures ≡ figuresAfter (meterDays sheet) before

@@ -1,0 +1,37 @@
+// The entry for a meter's sheet, which the historian calls from C.
+ghost use Rattle.historian.specs.Sheets.{DaysEntryPromise};
+use meter::MeterDays;
+use meter::days;
+
+// Answers a sheet of any length and content: the number of refusal and the place, 0 and 0 where it is
+// accepted. Acceptance writes the five figures; a refusal leaves them as they were. C calls it by
+// include/steeplecuff.h.
+#[no_mangle]
+pub extern "C" fn steeplecuff_days(
+    sheet: &[u8],
+    sum: &mut u64,
+    repeated: &mut u64,
+    repeated_zero: &mut u64,
+    longest: &mut u64,
+    first: &mut u64,
+    place: &mut u64,
+) -> u32
+    ensures { λ r. ⌜ DaysEntryPromise (now (sheet .entry)) (record { sum = now (sum .entry); repeated = now (repeated .entry); «repeated_zero» = now («repeated_zero» .entry); longest = now (longest .entry); first = now (first .entry) }) (record { result = r; place = now (place .exit); figures = record { sum = now (sum .exit); repeated = now (repeated .exit); «repeated_zero» = now («repeated_zero» .exit); longest = now (longest .exit); first = now (first .exit) } }) ⌝ }
+{
+    match days(sheet) {
+        MeterDays::Refused(refusal) => {
+            let reason = refusal.reason;
+            *place = refusal.place;
+            reason.number()
+        }
+        MeterDays::Counted(figures) => {
+            *sum = figures.sum;
+            *repeated = figures.repeated;
+            *repeated_zero = figures.repeated_zero;
+            *longest = figures.longest;
+            *first = figures.first;
+            *place = 0;
+            0
+        }
+    }
+}
