@@ -59,9 +59,9 @@ module _ {Answer : Type 0} (refuse : (number place : ℕ) → Answer) (file : Li
       testedBy refuse (numberTests file k ++ rest) answer ≡ refuse found k
   unfolding testedBy
   fault-fails k zero rest answer e = absurd (omega (arith, faults file (startOf file k) 0 e .0))
-  fault-fails k (suc zero) rest answer e = rw e
-  fault-fails k (suc (suc zero)) rest answer e = rw e
-  fault-fails k (suc (suc (suc zero))) rest answer e = rw e
+  fault-fails k (suc zero) rest answer e = rw e refl
+  fault-fails k (suc (suc zero)) rest answer e = rw e refl
+  fault-fails k (suc (suc (suc zero))) rest answer e = rw e refl
   fault-fails k (suc (suc (suc (suc more)))) rest answer e =
       absurd (omega (arith, faults file (startOf file k) (suc (suc (suc (suc more)))) e .1))
 
@@ -173,7 +173,7 @@ module _ {Answer : Type 0} {refuse : (number place : ℕ) → Answer} {file : Li
           -- 9, where bytes are left after the last number
           by-end : Dec (length file ≤ after) → Tried refuse file reader tests what count left
           by-end (yes h) =
-              all-pass (ap ended (from-first come) ∙ none-left what count file after h) (λ answer. says answer ∙ rw (le-ltb after (length file) h))
+              all-pass (ap ended (from-first come) ∙ none-left what count file after h) (λ answer. says answer ∙ rw (le-ltb after (length file) h) refl)
           by-end (no h) =
               one-fails (ap ended (from-first come) ∙ more-left what count file after (omega arith))
-              (λ answer. says answer ∙ rw (lt-ltb after (length file) (omega arith)))
+              (λ answer. says answer ∙ rw (lt-ltb after (length file) (omega arith)) refl)
