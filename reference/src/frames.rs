@@ -86,6 +86,7 @@ mod tests {
     use crate::periods::historian::call::HistorianCall;
     use crate::periods::historian::table_bytes::TableBytes;
     use crate::periods::question::PeriodFile;
+    use crate::sheets::historian::call::DaysCall;
     use std::fmt::Debug;
 
     fn two_numbers() -> Vec<NumberAt> {
@@ -112,6 +113,10 @@ mod tests {
             tables: TableBytes { plant, segment },
         });
         calls.to_vec()
+    }
+
+    fn two_sheets() -> Vec<DaysCall> {
+        [vec![0x01, 0x80], vec![]].map(DaysCall).to_vec()
     }
 
     /// Asserts that the frames of two questions read back, and that every cut is said.
@@ -153,9 +158,16 @@ mod tests {
     }
 
     #[test]
+    fn frame_of_a_sheet_is_length_then_bytes() {
+        let frames = write_frames(&two_sheets());
+        assert_eq!(frames, [2, 0, 0, 0, 0x01, 0x80, 0, 0, 0, 0]);
+    }
+
+    #[test]
     fn written_frames_read_back_and_cuts_are_said() {
         assert_read_back(&two_numbers());
         assert_read_back(&two_files());
         assert_read_back(&two_calls());
+        assert_read_back(&two_sheets());
     }
 }

@@ -3,11 +3,15 @@
 
 mod answer_line;
 mod compare;
+mod file_bytes;
 mod frames;
 mod numbers;
 mod periods;
 mod questions;
+mod refusal;
 mod seeded;
+mod sheets;
+mod verdict;
 
 use compare::one_run::compare_in_one_run;
 use compare::program::Program;
@@ -25,23 +29,30 @@ use periods::question::PeriodFile;
 use periods::seeded::period_cases::period_cases;
 use periods::suites::reading_suites;
 use questions::{Answer, Question, Suite};
+use refusal::Refused;
+use sheets::figures::{self, figures_of};
+use sheets::historian::call::DaysCall;
+use sheets::historian::days_suites;
+use sheets::printed::printed_suites as printed_sheets;
+use sheets::seeded::sheet_cases;
 use std::env;
 use std::ffi::OsString;
+use std::fmt::Display;
 use std::io::{self, Read, Write};
 use std::process::ExitCode;
 
 /// Exit code when something differs.
 const DIFFERS: u8 = 1;
-/// Exit code when the period file is refused.
+/// Exit code when the file is refused.
 const REFUSED: u8 = 1;
 /// Exit code when the work could not be done.
 const NOT_DONE: u8 = 2;
 
 const USAGE: &str = "\
-usage: reference answer numbers|readings|historian
+usage: reference answer numbers|readings|historian|historian-days
            reads frames on standard input, writes one answer for each: a line, or for
-           historian all that the call leaves
-       reference compare numbers|readings|historian -- PROGRAM [ARGS..]
+           historian and historian-days all that the call leaves
+       reference compare numbers|readings|historian|historian-days -- PROGRAM [ARGS..]
            puts each suite to PROGRAM in one run and compares its answers with its own
        reference compare rows -- PROGRAM [ARGS..]
            starts PROGRAM for each period file and compares the rows or the refusal it
@@ -49,29 +60,41 @@ usage: reference answer numbers|readings|historian
        reference compare inspections -- PROGRAM [ARGS..]
            starts PROGRAM for each period file and compares the inspector's page it
            prints with its own
+       reference compare days -- PROGRAM [ARGS..]
+           starts PROGRAM for each sheet of daily readings and compares the figures or
+           the refusal it prints with its own
        reference rows
            writes the rows of the period file on standard input, or its refusal
        reference inspect
            writes the inspector's page of the period file on standard input: a line
            for each number, its refusal if its reading refuses it, and a line for how
            the walk ends
+       reference days
+           writes the five figures of the sheet on standard input, or its refusal
        reference cases periods SEED COUNT
            writes COUNT cases of whole periods with their answers, one line each;
-           SEED and COUNT are whole numbers, and the paper's own cases come first";
+           SEED and COUNT are whole numbers, and the paper's own cases come first
+       reference cases sheets SEED COUNT
+           the same for sheets, some worked out by hand first";
 
 /// What the caller wants done.
 enum Task {
     AnswerNumbers,
     AnswerReadings,
     AnswerHistorian,
+    AnswerHistorianDays,
     CompareNumbers(Program),
     CompareReadings(Program),
     CompareHistorian(Program),
+    CompareHistorianDays(Program),
     CompareRows(Program),
     CompareInspections(Program),
+    CompareDays(Program),
     Rows,
     Inspect,
+    Days,
     CasesOfPeriods { seed: u64, count: usize },
+    CasesOfSheets { seed: u64, count: usize },
 }
 
 fn main() -> ExitCode {
@@ -80,6 +103,7 @@ fn main() -> ExitCode {
         Some(Task::AnswerNumbers) => answer::<NumberAt>(),
         Some(Task::AnswerReadings) => answer::<PeriodFile>(),
         Some(Task::AnswerHistorian) => answer::<HistorianCall>(),
+        Some(Task::AnswerHistorianDays) => answer::<DaysCall>(),
         Some(Task::CompareNumbers(program)) => {
             compare(&number_suites(), &program, compare_in_one_run)
         }
@@ -89,13 +113,19 @@ fn main() -> ExitCode {
         Some(Task::CompareHistorian(program)) => {
             compare(&historian_suites(), &program, compare_in_one_run)
         }
+        Some(Task::CompareHistorianDays(program)) => {
+            compare(&days_suites(), &program, compare_in_one_run)
+        }
         Some(Task::CompareRows(program)) => compare(&printed_suites(), &program, compare_starts),
         Some(Task::CompareInspections(program)) => {
             compare(&inspection_suites(), &program, compare_starts)
         }
+        Some(Task::CompareDays(program)) => compare(&printed_sheets(), &program, compare_starts),
         Some(Task::Rows) => rows(),
         Some(Task::Inspect) => inspection(),
-        Some(Task::CasesOfPeriods { seed, count }) => cases_of_periods(seed, count),
+        Some(Task::Days) => days(),
+        Some(Task::CasesOfPeriods { seed, count }) => cases(period_cases(seed), count),
+        Some(Task::CasesOfSheets { seed, count }) => cases(sheet_cases(seed), count),
         None => Err(USAGE.to_string()),
     };
     done.unwrap_or_else(|message| {
@@ -115,6 +145,7 @@ fn task_of(arguments: &[OsString]) -> Option<Task> {
         (["answer", "numbers"], _) => Some(Task::AnswerNumbers),
         (["answer", "readings"], _) => Some(Task::AnswerReadings),
         (["answer", "historian"], _) => Some(Task::AnswerHistorian),
+        (["answer", "historian-days"], _) => Some(Task::AnswerHistorianDays),
         (["compare", what, "--", ..], [_, _, _, path, rest @ ..]) => {
             let program = Program {
                 path: path.clone(),
@@ -124,10 +155,10 @@ fn task_of(arguments: &[OsString]) -> Option<Task> {
         }
         (["rows"], _) => Some(Task::Rows),
         (["inspect"], _) => Some(Task::Inspect),
-        (["cases", "periods", seed, count], _) => Some(Task::CasesOfPeriods {
-            seed: seed.parse().ok()?,
-            count: count.parse().ok()?,
-        }),
+        (["days"], _) => Some(Task::Days),
+        (["cases", what, seed, count], _) => {
+            task_to_write_cases(what, seed.parse().ok()?, count.parse().ok()?)
+        }
         _ => None,
     }
 }
@@ -138,8 +169,19 @@ fn task_to_compare(what: &str, program: Program) -> Option<Task> {
         "numbers" => Some(Task::CompareNumbers(program)),
         "readings" => Some(Task::CompareReadings(program)),
         "historian" => Some(Task::CompareHistorian(program)),
+        "historian-days" => Some(Task::CompareHistorianDays(program)),
         "rows" => Some(Task::CompareRows(program)),
         "inspections" => Some(Task::CompareInspections(program)),
+        "days" => Some(Task::CompareDays(program)),
+        _ => None,
+    }
+}
+
+/// The task to write so many cases of what is named, if there are such.
+fn task_to_write_cases(what: &str, seed: u64, count: usize) -> Option<Task> {
+    match what {
+        "periods" => Some(Task::CasesOfPeriods { seed, count }),
+        "sheets" => Some(Task::CasesOfSheets { seed, count }),
         _ => None,
     }
 }
@@ -173,9 +215,21 @@ fn compare<C>(
 fn rows() -> Result<ExitCode, String> {
     let accounted = account(&input()?, Tables::LARGE_ENOUGH);
     output(printed(&accounted).as_bytes())?;
-    match accounted {
-        Ok(_) => Ok(ExitCode::SUCCESS),
-        Err(_) => Ok(ExitCode::from(REFUSED)),
+    Ok(exit_code(&accounted))
+}
+
+/// Writes the figures of the sheet on standard input, or its refusal.
+fn days() -> Result<ExitCode, String> {
+    let answered = figures_of(&input()?);
+    output(figures::printed(&answered).as_bytes())?;
+    Ok(exit_code(&answered))
+}
+
+/// How the program ends after it has written what a file is answered with.
+fn exit_code<T>(answered: &Result<T, Refused>) -> ExitCode {
+    match answered {
+        Ok(_) => ExitCode::SUCCESS,
+        Err(_) => ExitCode::from(REFUSED),
     }
 }
 
@@ -192,10 +246,9 @@ fn inspection() -> Result<ExitCode, String> {
     }
 }
 
-/// Writes so many cases of whole periods with their answers.
-fn cases_of_periods(seed: u64, count: usize) -> Result<ExitCode, String> {
-    let cases = period_cases(seed).take(count);
-    let lines: String = cases.map(|case| format!("{case}\n")).collect();
+/// Writes so many of the cases with their answers.
+fn cases<C: Display>(cases: impl Iterator<Item = C>, count: usize) -> Result<ExitCode, String> {
+    let lines: String = cases.take(count).map(|case| format!("{case}\n")).collect();
     output(lines.as_bytes())?;
     Ok(ExitCode::SUCCESS)
 }

@@ -98,6 +98,34 @@ pub fn hex(bytes: &[u8], between: &str) -> String {
     digits.join(between)
 }
 
+/// What stands for the digits of an empty file.
+const EMPTY_FILE: &str = "-";
+
+/// The bytes of a file as one word of hex digits, also if there are none.
+pub fn file_digits(file: &[u8]) -> String {
+    match file {
+        [] => EMPTY_FILE.to_string(),
+        bytes => hex(bytes, ""),
+    }
+}
+
+/// The bytes of a file in words, at most so many of them from its start.
+pub fn file_in_words(file: &[u8], shown_bytes: usize) -> String {
+    let length = file.len();
+    let shown = hex(&file[..length.min(shown_bytes)], " ");
+    if length > shown_bytes {
+        format!("{length} bytes [{shown} ..]")
+    } else {
+        format!("bytes [{shown}]")
+    }
+}
+
+/// Numbers with single spaces between them.
+pub fn spaced(numbers: &[u64]) -> String {
+    let words: Vec<String> = numbers.iter().map(u64::to_string).collect();
+    words.join(" ")
+}
+
 /// What the tests of all suites ask.
 #[cfg(test)]
 pub mod suites_checked {
@@ -143,5 +171,24 @@ mod tests {
         assert_eq!(hex(&[0x01, 0xAC], " "), "01 AC");
         assert_eq!(hex(&[0x01, 0xAC], ""), "01AC");
         assert_eq!(hex(&[], " "), "");
+    }
+
+    #[test]
+    fn file_is_one_word_even_if_empty() {
+        assert_eq!(file_digits(&[0x01, 0xAC]), "01AC");
+        assert_eq!(file_digits(&[]), "-");
+    }
+
+    #[test]
+    fn words_show_so_many_bytes() {
+        assert_eq!(file_in_words(&[0x01, 0x80], 2), "bytes [01 80]");
+        assert_eq!(file_in_words(&[0x01, 0x80, 0x00], 2), "3 bytes [01 80 ..]");
+        assert_eq!(file_in_words(&[], 2), "bytes []");
+    }
+
+    #[test]
+    fn numbers_are_spaced_singly() {
+        assert_eq!(spaced(&[1, 0, 4_000_000_000]), "1 0 4000000000");
+        assert_eq!(spaced(&[]), "");
     }
 }

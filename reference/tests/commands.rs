@@ -109,12 +109,47 @@ fn calls_of_the_historian_are_answered_with_all_they_leave() {
 }
 
 #[test]
+fn calls_for_sheets_are_answered_with_all_they_leave() {
+    // Refused: a count without its readings. Accepted: three days, two of them equal.
+    let frames = [
+        &[1, 0, 0, 0, 0x03][..],
+        &[5, 0, 0, 0, 0x03, 0xAC, 0x02, 0x09, 0x09],
+    ];
+    let output = run(&["answer", "historian-days"], &frames.concat());
+    let expected = [
+        &[1, 0, 0, 0, 1, 0, 0, 0, 0, 0, 0, 0][..],
+        &[0xB1; 8],
+        &[0xB2; 8],
+        &[0xB3; 8],
+        &[0xB4; 8],
+        &[0xB5; 8],
+        &[0; 12],
+        &[62, 1, 0, 0, 0, 0, 0, 0],
+        &[1, 0, 0, 0, 0, 0, 0, 0],
+        &[0; 8],
+        &[2, 0, 0, 0, 0, 0, 0, 0],
+        &[2, 0, 0, 0, 0, 0, 0, 0],
+    ];
+    assert_eq!(output.stdout, expected.concat());
+    assert_eq!(output.status.code(), Some(0));
+}
+
+#[test]
 fn program_agrees_with_itself() {
-    for (what, suites) in [("numbers", 5), ("readings", 11), ("historian", 14)] {
+    for (what, suites) in [
+        ("numbers", 5),
+        ("readings", 11),
+        ("historian", 14),
+        ("historian-days", 14),
+    ] {
         let output = run(&["compare", what, "--", REFERENCE, "answer", what], &[]);
         assert_passed(&output, suites);
     }
-    for (what, command, suites) in [("rows", "rows", 5), ("inspections", "inspect", 10)] {
+    for (what, command, suites) in [
+        ("rows", "rows", 5),
+        ("inspections", "inspect", 10),
+        ("days", "days", 10),
+    ] {
         let output = run(&["compare", what, "--", REFERENCE, command], &[]);
         assert_passed(&output, suites);
     }
@@ -167,6 +202,65 @@ fn program_that_prints_other_than_the_page_fails() {
     assert!(report.contains("case 1: 65535 bytes [01 01 01 00 "));
     assert_eq!(report.lines().last(), Some("0 passed, 10 failed"));
     assert_eq!(output.status.code(), Some(1));
+}
+
+#[test]
+fn program_that_prints_other_than_the_figures_fails() {
+    let other = ["compare", "days", "--", REFERENCE, "inspect"];
+    let output = run(&other, &[]);
+    let report = text(&output.stdout);
+    assert!(report.contains("case 1: bytes [01 07]: line 1: expected \"7 0 0 1 1\", came "));
+    assert!(report.contains("case 4: 65535 bytes [EE 02 80 D0 AC F3 0E "));
+    assert_eq!(report.lines().last(), Some("0 passed, 10 failed"));
+    assert_eq!(output.status.code(), Some(1));
+}
+
+#[test]
+fn program_that_leaves_other_than_the_figures_fails() {
+    let other = ["compare", "historian-days", "--", REFERENCE, "rows"];
+    let output = run(&other, &[]);
+    let report = text(&output.stdout);
+    assert!(
+        report.contains("bytes [01 07]: expected refusal 0 and place 0, came only 6 of 52 bytes")
+    );
+    assert_eq!(report.lines().last(), Some("0 passed, 14 failed"));
+    assert_eq!(output.status.code(), Some(1));
+}
+
+#[test]
+fn figures_of_a_sheet_are_written() {
+    let sheets = [
+        (&[0x01, 0x07][..], "7 0 0 1 1\n"),
+        (&[0x06, 0x00, 0x00, 0x05, 0x05, 0xAC, 0x02], "R 1 6\n"),
+        (
+            &[0x06, 0x00, 0x00, 0x05, 0x05, 0xAC, 0x02, 0x00],
+            "310 1 1 2 3\n",
+        ),
+        (&[0x03, 0x00, 0x00, 0x00], "0 0 2 0 0\n"),
+    ];
+    for (sheet, line) in sheets {
+        let output = run(&["days"], sheet);
+        assert_eq!(text(&output.stdout), line);
+        assert_eq!(text(&output.stderr), "");
+        let refused = line.starts_with('R');
+        assert_eq!(output.status.code(), Some(i32::from(refused)));
+    }
+}
+
+#[test]
+fn refusal_of_a_sheet_is_written() {
+    let files = [
+        (&[][..], "R 1 0\n"),
+        (&[0x01, 0x80, 0x00], "R 2 1\n"),
+        (&[0x01, 0x80, 0x80, 0x80, 0x80, 0x80], "R 3 1\n"),
+        (&[0xEF, 0x02], "R 5 0\n"),
+        (&[0x01, 0x07, 0x80], "R 9 2\n"),
+    ];
+    for (file, refusal) in files {
+        let output = run(&["days"], file);
+        assert_eq!(text(&output.stdout), refusal);
+        assert_eq!(output.status.code(), Some(1));
+    }
 }
 
 #[test]
@@ -276,6 +370,23 @@ fn cases_of_periods_are_written_one_to_a_line() {
 }
 
 #[test]
+fn cases_of_sheets_are_written_one_to_a_line() {
+    let output = run(&["cases", "sheets", "7", "100"], &[]);
+    let lines: Vec<&str> = text(&output.stdout).lines().collect();
+    assert_eq!(lines.len(), 100);
+    assert_eq!(lines[0], "0107 A 7 0 0 1 1");
+    assert_eq!(lines[12], "050304040303 A 17 2 0 2 2");
+    assert!(lines.contains(&"- R 1 0"));
+    assert!(lines.contains(&"010580 R 9 2"));
+    let year = |line: &&&str| line.starts_with("EE02") && line.contains(" A ");
+    assert!(lines.iter().filter(year).count() > 0);
+    assert_eq!(output.status.code(), Some(0));
+
+    let none = run(&["cases", "sheets", "7", "0"], &[]);
+    assert_eq!(text(&none.stdout), "");
+}
+
+#[test]
 fn program_that_answers_nothing_fails_every_suite() {
     let output = run(&["compare", "numbers", "--", REFERENCE], &[]);
     let report = text(&output.stdout);
@@ -296,7 +407,7 @@ fn program_that_cannot_start_is_said_in_one_line() {
 
 #[test]
 fn bad_usage_prints_how_to_call() {
-    let bad: [&[&str]; 23] = [
+    let bad: [&[&str]; 32] = [
         &[],
         &["answer"],
         &["answer", "numbers", "more"],
@@ -320,6 +431,15 @@ fn bad_usage_prints_how_to_call() {
         &["cases", "periods", "one", "2"],
         &["cases", "periods", "1", "-2"],
         &["cases", "numbers", "1", "2"],
+        &["compare", "days"],
+        &["compare", "days", "--"],
+        &["compare", "sheets", "--", REFERENCE, "days"],
+        &["compare", "historian-days", REFERENCE],
+        &["answer", "days"],
+        &["answer", "historian-days", "more"],
+        &["days", "more"],
+        &["cases", "sheets", "1"],
+        &["cases", "sheets", "1", "two"],
     ];
     for arguments in bad {
         let output = run(arguments, &[]);
@@ -333,13 +453,16 @@ fn usage_names_every_command() {
     let output = run(&[], &[]);
     let usage = text(&output.stderr);
     for command in [
-        "reference answer numbers|readings|historian\n",
-        "reference compare numbers|readings|historian -- PROGRAM [ARGS..]\n",
+        "reference answer numbers|readings|historian|historian-days\n",
+        "reference compare numbers|readings|historian|historian-days -- PROGRAM [ARGS..]\n",
         "reference compare rows -- PROGRAM [ARGS..]\n",
         "reference compare inspections -- PROGRAM [ARGS..]\n",
+        "reference compare days -- PROGRAM [ARGS..]\n",
         "reference rows\n",
         "reference inspect\n",
+        "reference days\n",
         "reference cases periods SEED COUNT\n",
+        "reference cases sheets SEED COUNT\n",
     ] {
         assert!(usage.contains(command), "{command}");
     }

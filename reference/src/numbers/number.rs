@@ -1,4 +1,4 @@
-//! Numbers of the period file: groups of seven bits, lowest first, one in a byte.
+//! Numbers as they stand in a file: groups of seven bits, lowest first, one in a byte.
 
 /// Bits of the value that one group holds.
 pub const GROUP_BITS: usize = 7;

@@ -2,6 +2,7 @@
 
 use super::number::{padded, write_number, LIMIT, MOST_GROUPS};
 use super::question::NumberAt;
+use crate::file_bytes::{all_bytes, each_byte_changed, every_value};
 use crate::questions::Suite;
 use crate::seeded::Seeded;
 use std::collections::BTreeSet;
@@ -54,11 +55,6 @@ fn one_and_two_bytes() -> Vec<NumberAt> {
     one.chain(two).map(asked_at_front).collect()
 }
 
-/// The 256 byte values.
-fn all_bytes() -> impl Iterator<Item = u8> {
-    u8::MIN..=u8::MAX
-}
-
 // Suite: all bytes at the edges of three to six.
 
 /// Lengths of the patterns; the longest has a byte after the fifth group, which must not matter.
@@ -72,7 +68,7 @@ fn bytes_at_edges() -> Vec<NumberAt> {
     for length in PATTERN_LENGTHS {
         files.extend(mixed_patterns(length));
         for pattern in plain_patterns(length) {
-            files.extend(each_byte_replaced(&pattern));
+            files.extend(each_byte_changed(&pattern, every_value));
         }
     }
     files.into_iter().map(asked_at_front).collect()
@@ -116,19 +112,6 @@ fn brought_to_length(mut patterns: Vec<Vec<u8>>, length: usize) -> Vec<Vec<u8>> 
         pattern.resize(length, BYTE_AFTER_FIFTH);
     }
     patterns
-}
-
-/// The pattern with each of its bytes replaced by each of the 256 values.
-fn each_byte_replaced(pattern: &[u8]) -> Vec<Vec<u8>> {
-    let mut files = Vec::new();
-    for index in 0..pattern.len() {
-        for byte in all_bytes() {
-            let mut file = pattern.to_vec();
-            file[index] = byte;
-            files.push(file);
-        }
-    }
-    files
 }
 
 // Suite: values at and around every edge.

@@ -4,8 +4,8 @@ use super::emissions::emissions_of;
 use super::flow::flow_of;
 use super::reading::read_period;
 use super::records::Period;
-use super::refusal::{Reason, Refused};
 use super::rows::{PlantRow, Rows, SegmentRow};
+use crate::refusal::{Reason, Refused};
 
 /// How many numbers the two tables of the caller hold.
 #[derive(Clone, Copy, Debug, PartialEq, Eq)]
@@ -62,8 +62,8 @@ pub fn printed(accounted: &Result<Rows, Refused>) -> String {
 #[cfg(test)]
 mod tests {
     use super::*;
+    use crate::numbers::writing::{with_values, write_numbers};
     use crate::periods::paper::{whole_period, WHOLE_PERIOD};
-    use crate::periods::writing::{with_values, write_numbers};
 
     /// Changes of the whole period that are each refused by themselves.
     const GRAMS_PAST_LIMIT: [(usize, u64); 2] = [(19, 4_000_000_000), (20, 1001)];

@@ -1,12 +1,9 @@
 //! Cases of the whole of the paper, stated for use elsewhere.
 
 use super::accounts::{account, Tables};
-use super::rows::spaced;
-use crate::questions::hex;
+use crate::questions::{file_digits, spaced};
 use std::fmt;
 
-/// What stands for the digits of an empty file.
-const EMPTY_FILE: &str = "-";
 /// What stands between the numbers of the plant table and those of the segment table.
 const BETWEEN_TABLES: &str = "|";
 
@@ -35,10 +32,7 @@ impl PeriodCase {
 impl fmt::Display for PeriodCase {
     fn fmt(&self, out: &mut fmt::Formatter) -> fmt::Result {
         let Tables { plant, segment } = self.tables;
-        let digits = match &self.file[..] {
-            [] => EMPTY_FILE.to_string(),
-            bytes => hex(bytes, ""),
-        };
+        let digits = file_digits(&self.file);
         write!(out, "{plant} {segment} {digits} {}", self.answer())
     }
 }

@@ -1,7 +1,7 @@
 //! Emissions of the owners in kg: refusal 10.
 
 use super::records::{Owner, Period};
-use super::refusal::{Reason, Refused};
+use crate::refusal::{Reason, Refused};
 
 /// The most grams an owner's lines may add up to.
 pub const LARGEST_GRAM_TOTAL: u64 = 4_000_000_000_000;

@@ -2,7 +2,7 @@
 
 use super::record_places::{RecordKind, RecordPlace};
 use super::records::{Line, Owner, Plant, Segment, ANY_NUMBER, EDITION, HEADER_NUMBERS};
-use super::refusal::Reason;
+use crate::refusal::Reason;
 use std::ops::RangeInclusive;
 
 /// One field: what it may be, and why the file is refused when it is not.

@@ -1,8 +1,8 @@
 //! What flows through the segments: inflow, credits, charges; refusals 11 to 13.
 
 use super::records::{Period, Segment};
-use super::refusal::{Reason, Refused};
 use crate::numbers::number::LIMIT;
+use crate::refusal::{Reason, Refused};
 use std::collections::BTreeMap;
 
 /// Amounts of plants in kg by the number of the plant, in rising number.

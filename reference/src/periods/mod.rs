@@ -15,8 +15,6 @@ pub mod question;
 mod reading;
 mod record_places;
 mod records;
-mod refusal;
 mod rows;
 pub mod seeded;
 pub mod suites;
-mod writing;

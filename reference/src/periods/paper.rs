@@ -2,7 +2,7 @@
 
 use super::accounts::Tables;
 use super::case::PeriodCase;
-use super::writing::{with_values, write_numbers};
+use crate::numbers::writing::{with_values, write_numbers};
 
 /// The numbers of the whole period: header, two plants, two segments, two lines.
 pub const WHOLE_PERIOD: [u64; 26] = [

@@ -1,10 +1,9 @@
 //! The question how a period file is read, put as the file alone.
 
 use super::reading::read_period;
-use super::rows::spaced;
 use crate::answer_line::AnswerLine;
 use crate::frames::{first_file, write_file};
-use crate::questions::{hex, Question};
+use crate::questions::{hex, spaced, Question};
 
 /// One question: what are the records of this file, or why is it refused?
 #[derive(Clone, Debug, PartialEq, Eq)]

@@ -2,39 +2,26 @@
 
 use super::fields::field_after;
 use super::records::Period;
-use super::refusal::{Reason, Refused};
-use crate::numbers::number::{read_number, Reading};
+use crate::numbers::in_order::NumbersInOrder;
+use crate::refusal::Refused;
 
 /// Reads the file front to back, each number tested for itself and for its
 /// field before the next one is read.
 pub fn read_period(file: &[u8]) -> Result<Period, Refused> {
-    let mut numbers = Vec::new();
-    let mut next_byte = 0;
-    while let Some(field) = field_after(&numbers) {
-        let place = numbers.len();
-        match read_number(file, next_byte) {
-            Reading::Refused(refusal) => return Err(Reason::from(refusal).at(place)),
-            Reading::Number { value, .. } if !field.allowed.contains(&value) => {
-                return Err(field.reason.at(place));
-            }
-            Reading::Number { value, next } => {
-                numbers.push(value);
-                next_byte = next;
-            }
-        }
+    let mut numbers = NumbersInOrder::of(file);
+    while let Some(field) = field_after(numbers.numbers()) {
+        numbers.read_within(&field.allowed, field.reason)?;
     }
-    if next_byte < file.len() as u64 {
-        return Err(Reason::BytesAfter.at(numbers.len()));
-    }
-    Ok(Period::from_numbers(&numbers))
+    numbers.end()?;
+    Ok(Period::from_numbers(numbers.numbers()))
 }
 
 #[cfg(test)]
 mod tests {
     use super::*;
     use crate::numbers::number::{padded, write_number, LIMIT, MOST_GROUPS};
+    use crate::numbers::writing::{with_values, write_numbers, write_with_form};
     use crate::periods::paper::{whole_period, WHOLE_PERIOD};
-    use crate::periods::writing::{with_values, write_numbers, write_with_form};
 
     fn refused(file: &[u8]) -> String {
         match read_period(file) {

@@ -3,6 +3,7 @@
 use super::emissions::Emissions;
 use super::flow::{inflow_of, Amounts, Flow};
 use super::records::{Period, Plant, Segment};
+use crate::questions::spaced;
 use std::fmt;
 
 /// Kg of a tonne, for which one unit is given.
@@ -148,16 +149,10 @@ impl fmt::Display for Rows {
     }
 }
 
-/// Numbers with single spaces between them.
-pub fn spaced(numbers: &[u64]) -> String {
-    let words: Vec<String> = numbers.iter().map(u64::to_string).collect();
-    words.join(" ")
-}
-
 #[cfg(test)]
 mod tests {
+    use crate::numbers::writing::write_numbers;
     use crate::periods::accounts::{account, Tables};
-    use crate::periods::writing::write_numbers;
 
     fn rows_of(numbers: &[u64]) -> String {
         let rows = account(&write_numbers(numbers), Tables::LARGE_ENOUGH);

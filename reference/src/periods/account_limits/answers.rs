@@ -1,10 +1,10 @@
 //! What the tests here ask of a period.
 
+use crate::numbers::writing::write_numbers;
 use crate::periods::accounts::{account, Tables};
 use crate::periods::records::Period;
-use crate::periods::refusal::Refused;
 use crate::periods::rows::Rows;
-use crate::periods::writing::write_numbers;
+use crate::refusal::Refused;
 
 /// The answer to the period: `A`, or its refusal.
 pub fn answer(period: &Period) -> String {

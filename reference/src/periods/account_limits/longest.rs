@@ -28,8 +28,8 @@ pub fn longest_accepted() -> Period {
 mod tests {
     use super::super::answers::answer;
     use super::*;
+    use crate::numbers::writing::write_numbers;
     use crate::periods::emissions::LARGEST_GRAM_TOTAL;
-    use crate::periods::writing::write_numbers;
 
     #[test]
     fn file_is_accepted_and_as_long_as_can_be() {

@@ -15,7 +15,7 @@ use super::accounts::Tables;
 use super::case::PeriodCase;
 use super::paper::proved_cases;
 use super::records::Period;
-use super::writing::write_numbers;
+use crate::numbers::writing::write_numbers;
 use crate::questions::Suite;
 use call::HistorianCall;
 

@@ -4,10 +4,7 @@ use super::table_bytes::{TableBytes, NUMBER_BYTES};
 use crate::frames::split;
 use crate::periods::accounts::account;
 use crate::questions::Answer;
-
-/// What stands for the refusal and for the place of an accepted file.
-const ACCEPTED: u32 = 0;
-const NO_PLACE: u64 = 0;
+use crate::verdict::Verdict;
 
 /// The bytes of a table before the call: those that the call leaves are known by it.
 struct Pattern {
@@ -42,8 +39,7 @@ impl Pattern {
 /// What a call leaves.
 #[derive(Debug, PartialEq, Eq)]
 pub struct Returned {
-    refusal: u32,
-    place: u64,
+    verdict: Verdict,
     plant_table: Vec<u8>,
     segment_table: Vec<u8>,
 }
@@ -51,35 +47,29 @@ pub struct Returned {
 impl Returned {
     /// What the call with this file and such tables must leave.
     pub fn of(file: &[u8], tables: TableBytes) -> Self {
+        let accounted = account(file, tables.whole_numbers());
         let before = Returned {
-            refusal: ACCEPTED,
-            place: NO_PLACE,
+            verdict: Verdict::of(&accounted),
             plant_table: PLANT_PATTERN.table(tables.plant),
             segment_table: SEGMENT_PATTERN.table(tables.segment),
         };
-        match account(file, tables.whole_numbers()) {
+        match accounted {
             Ok(rows) => Returned {
                 plant_table: written_over(before.plant_table, &rows.plant_numbers()),
                 segment_table: written_over(before.segment_table, &rows.segment_numbers()),
                 ..before
             },
-            Err(refused) => Returned {
-                refusal: refused.reason as u32,
-                place: refused.place as u64,
-                ..before
-            },
+            Err(_) => before,
         }
     }
 
     /// What came for this answer, taken apart; nothing if it is cut short.
     fn taken_apart(&self, came: &[u8]) -> Option<Returned> {
-        let (refusal, rest) = split(came, self.refusal.to_le_bytes().len())?;
-        let (place, rest) = split(rest, self.place.to_le_bytes().len())?;
+        let (verdict, rest) = Verdict::first_in(came)?;
         let (plant_table, rest) = split(rest, self.plant_table.len())?;
         let (segment_table, _) = split(rest, self.segment_table.len())?;
         Some(Returned {
-            refusal: u32::from_le_bytes(refusal.try_into().ok()?),
-            place: u64::from_le_bytes(place.try_into().ok()?),
+            verdict,
             plant_table: plant_table.to_vec(),
             segment_table: segment_table.to_vec(),
         })
@@ -87,27 +77,10 @@ impl Returned {
 
     /// What came beside this answer, each part that differs in words.
     fn differences(&self, came: &Returned) -> Vec<String> {
-        let mut differences = Vec::new();
-        if (self.refusal, self.place) != (came.refusal, came.place) {
-            let (expected, came) = (self.verdict(), came.verdict());
-            differences.push(format!("expected {expected}, came {came}"));
-        }
-        differences.extend(first_difference(
-            "plant table",
-            &self.plant_table,
-            &came.plant_table,
-        ));
-        differences.extend(first_difference(
-            "segment table",
-            &self.segment_table,
-            &came.segment_table,
-        ));
-        differences
-    }
-
-    /// The refusal and the place in words.
-    fn verdict(&self) -> String {
-        format!("refusal {} and place {}", self.refusal, self.place)
+        let verdict = self.verdict.difference(came.verdict);
+        let plant = first_difference("plant table", &self.plant_table, &came.plant_table);
+        let segment = first_difference("segment table", &self.segment_table, &came.segment_table);
+        [verdict, plant, segment].into_iter().flatten().collect()
     }
 }
 
@@ -130,15 +103,11 @@ fn first_difference(table: &str, expected: &[u8], came: &[u8]) -> Option<String>
 
 impl Answer for Returned {
     fn label(&self) -> String {
-        match self.refusal {
-            ACCEPTED => "A".to_string(),
-            number => format!("R{number}"),
-        }
+        self.verdict.label()
     }
 
     fn bytes(&self) -> Vec<u8> {
-        let mut bytes = self.refusal.to_le_bytes().to_vec();
-        bytes.extend(self.place.to_le_bytes());
+        let mut bytes = self.verdict.bytes();
         bytes.extend(&self.plant_table);
         bytes.extend(&self.segment_table);
         bytes
@@ -149,15 +118,9 @@ impl Answer for Returned {
     }
 
     fn difference(&self, came: &[u8]) -> String {
-        let expected = self.verdict();
         match self.taken_apart(came) {
             Some(came) => self.differences(&came).join("; "),
-            None if came.is_empty() => format!("expected {expected}, came no answer"),
-            None => format!(
-                "expected {expected}, came only {} of {} bytes",
-                came.len(),
-                self.bytes().len()
-            ),
+            None => self.verdict.cut_short(came.len(), self.bytes().len()),
         }
     }
 }
@@ -191,7 +154,7 @@ mod tests {
         let returned = left_by(&SMALLEST, 64 + 3, 40 + 9);
         let numbers =
             |numbers: &[u64]| -> Vec<u8> { numbers.iter().flat_map(|n| n.to_le_bytes()).collect() };
-        assert_eq!((returned.refusal, returned.place), (0, 0));
+        assert_eq!(returned.label(), "A");
         assert_eq!(
             returned.plant_table[..64],
             numbers(&[3, 2, 1, 0, 0, 0, 0, 0])
@@ -208,7 +171,8 @@ mod tests {
     fn refused_file_writes_nothing() {
         for (plant, segment, refusal, place) in [(63, 40, 14, 8), (64, 39, 15, 5), (0, 0, 14, 8)] {
             let returned = left_by(&SMALLEST, plant, segment);
-            assert_eq!((returned.refusal, returned.place), (refusal, place));
+            let verdict = format!("refusal {refusal} and place {place}");
+            assert_eq!(returned.verdict.to_string(), verdict);
             assert_eq!(returned.plant_table, PLANT_PATTERN.table(plant));
             assert_eq!(returned.segment_table, SEGMENT_PATTERN.table(segment));
         }

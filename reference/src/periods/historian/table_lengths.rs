@@ -2,13 +2,13 @@
 
 use super::call::HistorianCall;
 use super::table_bytes::{TableBytes, NUMBER_BYTES};
+use crate::numbers::writing::write_numbers;
 use crate::periods::account_limits::full_size::{PLANTS, SEGMENTS};
 use crate::periods::account_limits::longest::longest_accepted;
 use crate::periods::accounts::Tables;
 use crate::periods::paper::{whole_period, TABLES};
 use crate::periods::seeded::period_cases::full_size_files;
 use crate::periods::suites::whole_files::longest;
-use crate::periods::writing::write_numbers;
 
 /// How many bytes past its need a table of the whole period gets at most.
 const BYTES_PAST_NEED: usize = 2 * NUMBER_BYTES;

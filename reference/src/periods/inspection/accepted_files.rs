@@ -1,11 +1,11 @@
 //! Files that are accepted: seeded ones, full-size ones, and the smallest of many counts.
 
+use crate::numbers::writing::write_numbers;
 use crate::periods::account_limits::longest::longest_accepted;
 use crate::periods::records::{Line, Plant, Segment};
 use crate::periods::seeded::seeded_period;
 use crate::periods::seeded::wishes::{Size, Wish, ACCEPTED};
 use crate::periods::suites::whole_files::of_counts;
-use crate::periods::writing::write_numbers;
 use crate::seeded::Seeded;
 
 /// The seed of the seeded periods.

@@ -1,10 +1,10 @@
 //! The whole period of the paper with its bytes cut, changed, and followed by others.
 
+use crate::file_bytes::{self, cuts_of};
 use crate::numbers::number::{write_number, LIMIT, MORE_FOLLOW, MOST_GROUPS};
+use crate::numbers::writing::write_numbers;
 use crate::periods::paper::whole_period;
-use crate::periods::suites::bytes::{cuts_of, with_byte};
 use crate::periods::suites::whole_files::SMALLEST;
-use crate::periods::writing::write_numbers;
 use std::collections::BTreeSet;
 
 /// Bytes that every byte is changed to: the edges of a last group and of others.
@@ -20,13 +20,9 @@ pub fn every_cut() -> Vec<Vec<u8>> {
 
 /// Each byte of the whole period changed to each value that matters.
 pub fn each_byte_changed() -> Vec<Vec<u8>> {
-    let whole = whole_period();
-    let mut files = Vec::new();
-    for (place, &byte) in whole.iter().enumerate() {
-        let values = values_that_matter(byte).into_iter();
-        files.extend(values.map(|value| with_byte(&whole, place, value)));
-    }
-    files
+    file_bytes::each_byte_changed(&whole_period(), |byte| {
+        values_that_matter(byte).into_iter().collect()
+    })
 }
 
 /// The edge bytes, the values next to a byte, and it with its top bit flipped; not itself.

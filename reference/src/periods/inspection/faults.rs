@@ -2,10 +2,10 @@
 //! for which reading refuses the file.
 
 use super::refused_fields::with_field_not_allowed;
+use crate::numbers::faults::LARGEST_OF_MOST_GROUPS;
 use crate::numbers::number::{padded, write_number, LIMIT, MORE_FOLLOW, MOST_GROUPS};
+use crate::numbers::writing::{write_numbers, write_with_form};
 use crate::periods::paper::WHOLE_PERIOD;
-use crate::periods::seeded::damage::LARGEST_OF_MOST_GROUPS;
-use crate::periods::writing::{write_numbers, write_with_form};
 
 /// Numbers that stand after the last one, so that the faults come there too.
 const NUMBERS_AFTER: [u64; 2] = [300, 5];

@@ -1,11 +1,11 @@
 //! Headers whose numbers are at their limits and past them, alone and with numbers behind them.
 
 use crate::numbers::number::{write_number, LIMIT, MORE_FOLLOW, MOST_GROUPS};
+use crate::numbers::writing::{with_values, write_numbers};
 use crate::periods::fields::fields_of;
 use crate::periods::paper::WHOLE_PERIOD;
 use crate::periods::records::{HEADER_NUMBERS, LINES_AT, PLANTS_AT, SEGMENTS_AT};
 use crate::periods::suites::whole_files::of_counts;
-use crate::periods::writing::{with_values, write_numbers};
 use std::collections::BTreeSet;
 use std::ops::RangeInclusive;
 

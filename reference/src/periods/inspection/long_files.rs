@@ -3,8 +3,8 @@
 use super::page::BUFFER_BYTES;
 use super::refused_fields::with_field_not_allowed;
 use crate::numbers::number::{padded, write_number, LIMIT, MORE_FOLLOW, MOST_GROUPS};
+use crate::numbers::writing::write_numbers;
 use crate::periods::suites::whole_files::{longest, SMALLEST};
-use crate::periods::writing::write_numbers;
 
 /// The first byte behind the buffer.
 const CUT: usize = BUFFER_BYTES;

@@ -75,9 +75,9 @@ fn write_name_in_record(place: RecordPlace, out: &mut fmt::Formatter) -> fmt::Re
 mod tests {
     use super::*;
     use crate::numbers::number::LIMIT;
+    use crate::numbers::writing::with_values;
     use crate::periods::paper::WHOLE_PERIOD;
     use crate::periods::suites::whole_files::of_counts;
-    use crate::periods::writing::with_values;
 
     fn name_after(numbers: &[u64]) -> String {
         NamedField::after(numbers).to_string()

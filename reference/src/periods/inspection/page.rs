@@ -4,7 +4,7 @@
 use super::named_field::NamedField;
 use crate::numbers::number::{read_number, Reading, Refusal};
 use crate::periods::reading::read_period;
-use crate::periods::refusal::Refused;
+use crate::refusal::Refused;
 use std::fmt;
 
 /// How many bytes of a file are walked; a longer file is cut.
@@ -145,9 +145,9 @@ pub mod pages_checked {
 mod tests {
     use super::*;
     use crate::numbers::number::{write_number, LIMIT, MORE_FOLLOW, MOST_GROUPS};
+    use crate::numbers::writing::{with_values, write_numbers};
     use crate::periods::accounts::{account, Tables};
     use crate::periods::paper::{proved_files, whole_period, WHOLE_PERIOD};
-    use crate::periods::writing::{with_values, write_numbers};
 
     /// A header that is not allowed.
     const NOT_ALLOWED: [u8; 4] = [0x02, 0x01, 0x01, 0x00];

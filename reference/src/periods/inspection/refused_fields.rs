@@ -1,8 +1,8 @@
 //! The whole period with a number that its field may not be: reading refuses it there, and the
 //! walk goes on.
 
+use crate::numbers::writing::with_values;
 use crate::periods::paper::WHOLE_PERIOD;
-use crate::periods::writing::with_values;
 
 /// Places of the whole period where 0 is not allowed: the count of plants, a first segment, a
 /// kind, and an owner number.
@@ -16,8 +16,8 @@ pub fn with_field_not_allowed() -> [Vec<u64>; 4] {
 #[cfg(test)]
 mod tests {
     use super::*;
+    use crate::numbers::writing::write_numbers;
     use crate::periods::inspection::page::pages_checked::closing;
-    use crate::periods::writing::write_numbers;
 
     #[test]
     fn each_sort_of_field_is_refused() {

@@ -2,11 +2,11 @@
 //! on, reading refuses the file.
 
 use crate::numbers::number::{GROUP_BITS, LIMIT, MOST_GROUPS};
+use crate::numbers::writing::{with_values, write_numbers};
 use crate::periods::fields::fields_of;
 use crate::periods::paper::WHOLE_PERIOD;
 use crate::periods::records::HEADER_NUMBERS;
 use crate::periods::suites::whole_files::longest;
-use crate::periods::writing::{with_values, write_numbers};
 use crate::seeded::Seeded;
 use std::collections::BTreeSet;
 

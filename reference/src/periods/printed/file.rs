@@ -1,7 +1,7 @@
 //! A period file on standard input, and what a program prints for it.
 
 use crate::periods::accounts::{account, printed, Tables};
-use crate::questions::{hex, label_of, FileToPrint};
+use crate::questions::{file_in_words, label_of, FileToPrint};
 
 /// How many bytes of a file are shown: all that a period can have, and not all that come after.
 const SHOWN_BYTES: usize = 8192;
@@ -30,13 +30,7 @@ impl FileToPrint for PrintedFile {
     }
 
     fn in_words(&self) -> String {
-        let length = self.0.len();
-        let shown = hex(&self.0[..length.min(SHOWN_BYTES)], " ");
-        if length > SHOWN_BYTES {
-            format!("{length} bytes [{shown} ..]")
-        } else {
-            format!("bytes [{shown}]")
-        }
+        file_in_words(&self.0, SHOWN_BYTES)
     }
 }
 

@@ -1,10 +1,10 @@
 //! Files that are as long as can be, and longer.
 
 use crate::numbers::number::MORE_FOLLOW;
+use crate::numbers::writing::write_numbers;
 use crate::periods::account_limits::longest::longest_accepted;
 use crate::periods::paper::whole_period;
 use crate::periods::suites::whole_files::longest;
-use crate::periods::writing::write_numbers;
 
 /// How many bytes come after whole files.
 const BYTES_AFTER: [usize; 3] = [1, 2, 100_000];

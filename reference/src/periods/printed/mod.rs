@@ -7,7 +7,7 @@ mod long_files;
 use super::account_limits::about_every_subject;
 use super::paper::proved_files;
 use super::seeded::period_cases::{full_size_files, seeded_cases};
-use super::writing::write_numbers;
+use crate::numbers::writing::write_numbers;
 use crate::questions::Suite;
 use file::PrintedFile;
 

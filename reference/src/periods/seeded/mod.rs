@@ -59,9 +59,9 @@ mod tests {
     use super::wishes::{Size, ACCEPTED, ORDINARY};
     use super::*;
     use crate::numbers::number::LIMIT;
+    use crate::numbers::writing::write_numbers;
     use crate::periods::accounts::{account, Tables};
     use crate::periods::rows::{PlantRow, Rows, SegmentRow};
-    use crate::periods::writing::write_numbers;
 
     /// How many periods are made to each wish.
     const TIMES: u64 = 30;

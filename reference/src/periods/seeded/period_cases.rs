@@ -8,12 +8,12 @@ use super::outflows::Outflows;
 use super::routes::Routes;
 use super::seeded_period;
 use super::wishes::{Size, Wish, ACCEPTED, ORDINARY};
+use crate::numbers::writing::write_numbers;
 use crate::periods::accounts::Tables;
 use crate::periods::case::PeriodCase;
 use crate::periods::paper::proved_cases;
 use crate::periods::records::Period;
-use crate::periods::refusal::Reason;
-use crate::periods::writing::write_numbers;
+use crate::refusal::Reason;
 use crate::seeded::Seeded;
 
 /// What comes of a case.

@@ -1,11 +1,12 @@
 //! Seeded files of small and middle size, whole and damaged in one way or several.
 
+use crate::file_bytes::with_hits;
 use crate::numbers::number::{write_number, LIMIT};
-use crate::periods::refusal::Reason;
+use crate::numbers::writing::{write_numbers, write_with_form};
 use crate::periods::seeded::damage::{damaged, Damage};
 use crate::periods::seeded::seeded_period;
 use crate::periods::seeded::wishes::{Size, Wish};
-use crate::periods::writing::{write_numbers, write_with_form};
+use crate::refusal::Reason;
 use crate::seeded::Seeded;
 use std::iter;
 
@@ -52,16 +53,6 @@ const FATES: [Fate; 15] = [
     Fate::SeveralHits,
 ];
 
-/// How one byte is hit.
-#[derive(Clone, Copy)]
-enum Hit {
-    Changed,
-    Removed,
-    Inserted,
-}
-
-const HITS: [Hit; 3] = [Hit::Changed, Hit::Removed, Hit::Inserted];
-
 /// Seeded files, each with a seeded fate.
 pub fn seeded_whole_and_damaged() -> Vec<Vec<u8>> {
     let mut seeded = Seeded::new(SEED_OF_FILES);
@@ -98,19 +89,4 @@ fn seeded_file(seeded: &mut Seeded) -> Vec<u8> {
             with_hits(write_numbers(&numbers), hits, seeded)
         }
     }
-}
-
-/// The file with so many of its bytes hit; it must have more bytes than that.
-fn with_hits(mut file: Vec<u8>, hits: usize, seeded: &mut Seeded) -> Vec<u8> {
-    for _ in 0..hits {
-        let place = seeded.up_to(file.len() - 1);
-        match seeded.pick(&HITS) {
-            Hit::Changed => file[place] = seeded.byte(),
-            Hit::Removed => {
-                file.remove(place);
-            }
-            Hit::Inserted => file.insert(place, seeded.byte()),
-        }
-    }
-    file
 }

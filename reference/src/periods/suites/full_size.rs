@@ -1,12 +1,12 @@
 //! Files of as many records as there can be: whole, cut, damaged, and followed by bytes.
 
 use super::whole_files::longest;
+use crate::numbers::writing::write_numbers;
 use crate::periods::records::Period;
-use crate::periods::refusal::Reason;
 use crate::periods::seeded::damage::{damaged, Damage};
 use crate::periods::seeded::seeded_period;
 use crate::periods::seeded::wishes::{Size, Wish};
-use crate::periods::writing::write_numbers;
+use crate::refusal::Reason;
 use crate::seeded::Seeded;
 
 /// How many seeded full-size periods there are, besides the longest.

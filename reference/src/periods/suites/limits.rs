@@ -1,9 +1,9 @@
 //! Files at the limits of the counts and of the fields, and one past them.
 
 use super::whole_files::of_counts;
+use crate::numbers::writing::{with_values, write_numbers};
 use crate::periods::fields::fields_of;
 use crate::periods::records::{Line, Plant, Segment, HEADER_NUMBERS};
-use crate::periods::writing::{with_values, write_numbers};
 use std::ops::{Range, RangeInclusive};
 
 /// Lines at which the fields of a file with many lines are changed.

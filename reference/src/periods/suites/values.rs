@@ -1,11 +1,12 @@
 //! Files in which one number, or a few that belong together, is not what it was.
 
 use super::whole_files::{of_counts, small_and_middle, EVERY_CLASS, MORE_PLANTS};
-use crate::numbers::number::{padded, write_number, LIMIT, MORE_FOLLOW, MOST_GROUPS};
+use crate::numbers::faults::every_fault_at;
+use crate::numbers::number::LIMIT;
+use crate::numbers::writing::{with_values, write_numbers};
 use crate::periods::fields::fields_of;
 use crate::periods::records::{Line, Plant, Segment};
 use crate::periods::records::{HEADER_NUMBERS, LINES_AT, PLANTS_AT, SEGMENTS_AT};
-use crate::periods::writing::{with_values, write_numbers, write_with_form};
 use std::collections::BTreeSet;
 
 /// Values that many fields are tested against, and values around every power of 128 and
@@ -53,36 +54,10 @@ pub fn every_fault_at_every_number() -> Vec<Vec<u8>> {
     let mut files = Vec::new();
     for numbers in small_and_middle() {
         for place in 0..numbers.len() {
-            files.push(write_numbers(&numbers[..place]));
-            for form in forms_that_end() {
-                files.push([write_numbers(&numbers[..place]), form].concat());
-            }
-            for form in forms_at_fault(numbers[place]) {
-                files.push(write_with_form(numbers, place, &form));
-            }
+            files.extend(every_fault_at(numbers, place));
         }
     }
     files
-}
-
-/// Forms with which the file ends: cut short, or with as many groups as may be and another to
-/// follow.
-fn forms_that_end() -> Vec<Vec<u8>> {
-    let limit = write_number(LIMIT);
-    let cut = (1..limit.len()).map(|groups| limit[..groups].to_vec());
-    cut.chain([vec![MORE_FOLLOW; MOST_GROUPS]]).collect()
-}
-
-/// Forms of a number, and of others, that are not in shortest form or too large.
-fn forms_at_fault(value: u64) -> Vec<Vec<u8>> {
-    let own = write_number(value);
-    let mut forms: Vec<Vec<u8>> = (own.len() + 1..=MOST_GROUPS + 1)
-        .map(|groups| padded(&own, groups))
-        .collect();
-    forms.extend((2..=MOST_GROUPS).map(|groups| padded(&[0], groups)));
-    forms.push(vec![u8::MAX; MOST_GROUPS]);
-    forms.push(write_number(LIMIT + 1));
-    forms
 }
 
 /// Every number replaced by every value that a limit is near.

@@ -193,8 +193,8 @@ pub fn longest() -> Vec<u64> {
 #[cfg(test)]
 mod tests {
     use super::*;
+    use crate::numbers::writing::write_numbers;
     use crate::periods::reading::read_period;
-    use crate::periods::writing::write_numbers;
 
     #[test]
     fn whole_files_are_read_as_written() {

@@ -1,6 +1,6 @@
-//! Writing the numbers of period files, also such that must be refused.
+//! Writing the numbers of files, also such that must be refused.
 
-use crate::numbers::number::write_number;
+use super::number::write_number;
 
 /// The bytes of the numbers, each in its shortest form.
 pub fn write_numbers(numbers: &[u64]) -> Vec<u8> {

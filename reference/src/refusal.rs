@@ -1,4 +1,4 @@
-//! Why a period file is refused, and where.
+//! Why a file is refused, and where.
 
 use crate::numbers::number::Refusal;
 use std::fmt;

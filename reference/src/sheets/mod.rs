@@ -1,0 +1,10 @@
+//! Sheets of daily readings: reading them, the figures of a sheet, and the questions about them.
+
+mod case;
+pub mod figures;
+mod files;
+pub mod historian;
+pub mod printed;
+pub mod seeded;
+mod sheet;
+mod worked;
