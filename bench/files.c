@@ -2,6 +2,8 @@
 
 #include <string.h>
 
+#include "period_file.h"
+
 /* Numbers of a sequence that is the same on every machine: x -> x * FACTOR + STEP, of which the upper half is used. */
 #define SEQUENCE_FACTOR UINT64_C(6364136223846793005)
 #define SEQUENCE_STEP UINT64_C(1442695040888963407)
@@ -15,6 +17,10 @@ enum { LEAST_EXPORT_BITS = 20, MOST_EXPORT_BITS = 27, MOST_QUANTITY_BITS = 30, M
 enum { EDITION = 1, WHOLE_FRACTION = 1000000, LOST_ONE_IN = 1000, STORE = 6, KINDS_BEFORE_STORE = 5 };
 enum { PLANT_CLASSES = 8, FIRST_SEGMENT_CLASS = 3, SEGMENT_CLASSES = 5, OWNER_KINDS = 2, PLANT_OWNER = 0, SEGMENT_OWNER = 1 };
 #define FACTOR_OVER_LIMIT UINT32_C(1000000001)
+
+/* Of the days of a sheet, one in so many repeats the day before, and one in so many others is zero. */
+enum { REPEATED_ONE_IN = 3, ZERO_ONE_IN = 5 };
+#define LARGEST_READING UINT32_C(4000000000)
 
 /* The numbers of a file that is being made. */
 struct draft {
@@ -83,9 +89,14 @@ static void add_lines(struct draft *draft)
     }
 }
 
+static void draft_whole(struct draft *draft)
+{
+    for (size_t i = 0; i < WHOLE_PERIOD_NUMBERS; i++)
+        add(draft, whole_period[i]);
+}
+
 static void draft_full(struct draft *draft)
 {
-    *draft = (struct draft){.sequence = SEQUENCE_START};
     add(draft, EDITION);
     add(draft, FULL_PLANTS);
     add(draft, FULL_SEGMENTS);
@@ -94,26 +105,73 @@ static void draft_full(struct draft *draft)
     add_lines(draft);
 }
 
-static void finish(struct file *file, const uint32_t *numbers, size_t count, uint32_t refusal)
+static void draft_refused(struct draft *draft)
 {
-    file->len = put_numbers(file->bytes, numbers, count);
-    file->numbers = count;
-    file->refusal = refusal;
+    draft_full(draft);
+    draft->numbers[draft->count - 1] = FACTOR_OVER_LIMIT;
+}
+
+/* The next number of the sequence that takes so many bytes. */
+static uint32_t draw_of_bytes(struct draft *draft, uint32_t bytes)
+{
+    uint32_t least = bytes == 1 ? 0 : UINT32_C(1) << (GROUP_BITS * (bytes - 1));
+    uint32_t most = bytes == MOST_NUMBER_BYTES ? LARGEST_READING : (UINT32_C(1) << (GROUP_BITS * bytes)) - 1;
+    return least + draw(draft, most - least);
+}
+
+/* Drafts a full year of readings of at most so many bytes; each length is as likely. */
+static void draft_year(struct draft *draft, uint32_t most_bytes)
+{
+    uint32_t reading = 0;
+    add(draft, STEEPLECUFF_MOST_DAYS);
+    for (uint32_t day = 1; day <= STEEPLECUFF_MOST_DAYS; day++) {
+        if (draw(draft, REPEATED_ONE_IN - 1) != 0)
+            reading = draw(draft, ZERO_ONE_IN - 1) == 0 ? 0 : draw_of_bytes(draft, 1 + draw(draft, most_bytes - 1));
+        add(draft, reading);
+    }
+}
+
+static void draft_small_year(struct draft *draft)
+{
+    draft_year(draft, 1);
+}
+
+static void draft_mixed_year(struct draft *draft)
+{
+    draft_year(draft, MOST_NUMBER_BYTES);
+}
+
+static void draft_refused_year(struct draft *draft)
+{
+    draft_mixed_year(draft);
+    draft->numbers[draft->count - 1] = LARGEST_READING + 1;
 }
 
 bool make_file(struct file *file, const char *name)
 {
-    struct draft draft;
-    if (strcmp(name, "whole") == 0) {
-        finish(file, whole_period, WHOLE_PERIOD_NUMBERS, STEEPLECUFF_ACCEPTED);
+    static const struct {
+        const char *name;
+        enum file_kind kind;
+        void (*draft)(struct draft *);
+        uint32_t refusal;
+    } files[] = {
+        {"whole", PERIOD_FILE, draft_whole, STEEPLECUFF_ACCEPTED},
+        {"full", PERIOD_FILE, draft_full, STEEPLECUFF_ACCEPTED},
+        {"refused", PERIOD_FILE, draft_refused, STEEPLECUFF_REFUSED_LINE_FIELD},
+        {"small-year", SHEET, draft_small_year, STEEPLECUFF_ACCEPTED},
+        {"mixed-year", SHEET, draft_mixed_year, STEEPLECUFF_ACCEPTED},
+        {"refused-year", SHEET, draft_refused_year, STEEPLECUFF_REFUSED_NUMBER_OVER_LIMIT},
+    };
+    for (size_t i = 0; i < sizeof files / sizeof files[0]; i++) {
+        if (strcmp(name, files[i].name) != 0)
+            continue;
+        struct draft draft = {.sequence = SEQUENCE_START};
+        files[i].draft(&draft);
+        file->kind = files[i].kind;
+        file->len = put_numbers(file->bytes, draft.numbers, draft.count);
+        file->numbers = draft.count;
+        file->refusal = files[i].refusal;
         return true;
     }
-    draft_full(&draft);
-    if (strcmp(name, "full") == 0) {
-        finish(file, draft.numbers, draft.count, STEEPLECUFF_ACCEPTED);
-        return true;
-    }
-    draft.numbers[draft.count - 1] = FACTOR_OVER_LIMIT;
-    finish(file, draft.numbers, draft.count, STEEPLECUFF_REFUSED_LINE_FIELD);
-    return strcmp(name, "refused") == 0;
+    return false;
 }

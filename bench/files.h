@@ -1,4 +1,4 @@
-/* The period files that the benchmark puts to both programs. */
+/* The period files and the meters' sheets that the benchmark puts to both programs. */
 #ifndef FILES_H
 #define FILES_H
 
@@ -6,7 +6,7 @@
 #include <stddef.h>
 #include <stdint.h>
 
-#include "period_file.h"
+#include "numbers.h"
 #include "steeplecuff.h"
 
 /* A full-size period: as many plants, segments and lines as there can be. */
@@ -17,15 +17,20 @@ enum {
         HEADER_NUMBERS + PLANT_FIELDS * FULL_PLANTS + SEGMENT_FIELDS * FULL_SEGMENTS + LINE_FIELDS * FULL_LINES
 };
 
+/* Which call a file is for. */
+enum file_kind { PERIOD_FILE, SHEET };
+
 struct file {
-    uint8_t bytes[FULL_NUMBERS * MOST_NUMBER_BYTES];
+    enum file_kind kind;
+    uint8_t bytes[FULL_NUMBERS * MOST_NUMBER_BYTES]; /* a sheet has fewer numbers than a full-size period */
     size_t len;
     size_t numbers;
     uint32_t refusal; /* the answer that it gets */
 };
 
-/* Makes the file of that name: `whole`, 01's whole period; `full`, a full-size one that is accepted; `refused`, the same
-   refused at its very last number. False where there is none of that name. */
+/* Makes the file of that name: `whole`, 01's whole period; `full`, a full-size one that is accepted; `refused`, the
+   same refused at its very last number. Or the sheet of a full year: `small-year`, with readings of one byte;
+   `mixed-year`, of one to five; `refused-year`, the same refused at its last reading. False where there is none. */
 bool make_file(struct file *file, const char *name);
 
 #endif

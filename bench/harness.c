@@ -1,5 +1,5 @@
-/* harness: what the benchmark measures. FILE is a name of files.h; FUNCTION is steeplecuff, plain, or empty, which does
-   nothing.
+/* harness: what the benchmark measures. FILE is a name of files.h, a period file or a sheet, which tells the call;
+   FUNCTION is steeplecuff, plain, or empty, which does nothing.
      harness size FILE                   prints the file's bytes and numbers
      harness same FILE                   ends with 1 where steeplecuff and plain do not answer alike
      harness calls FUNCTION FILE TIMES   calls the function so many times
@@ -17,17 +17,31 @@
 enum { DIFFERENT = 1, CANNOT_GO_ON = 2, DECIMAL = 10 };
 
 typedef uint32_t quantify(const uint8_t *, size_t, uint8_t *, size_t, uint8_t *, size_t, uint64_t *);
+typedef uint32_t days(const uint8_t *, size_t, uint64_t *, uint64_t *, uint64_t *, uint64_t *, uint64_t *, uint64_t *);
 
+/* What is named FUNCTION: one for each kind of file. */
+struct functions {
+    const char *name;
+    quantify *quantify;
+    days *days;
+};
+
+struct figures {
+    uint64_t sum, repeated, repeated_zero, longest, first;
+};
+
+/* What a call leaves: the tables of a period file or the figures of a sheet. */
 struct answer {
     uint8_t plants[STEEPLECUFF_MOST_PLANT_BYTES];
     uint8_t segments[STEEPLECUFF_MOST_SEGMENT_BYTES];
+    struct figures figures;
     uint32_t refusal;
     uint64_t place;
 };
 
-/* One call: its function, its file and its answer. */
+/* One call: its functions, its file and its answer. */
 struct call {
-    quantify *function;
+    struct functions functions;
     struct file file;
     struct answer answer;
 };
@@ -41,7 +55,7 @@ static int complain(const char *message, const char *word)
     return CANNOT_GO_ON;
 }
 
-/* Stands for what any call costs. */
+/* These two stand for what any call costs. */
 static uint32_t empty_quantify(const uint8_t *file, size_t file_len, uint8_t *plants, size_t plants_len,
                                uint8_t *segments, size_t segments_len, uint64_t *place)
 {
@@ -49,38 +63,64 @@ static uint32_t empty_quantify(const uint8_t *file, size_t file_len, uint8_t *pl
     return STEEPLECUFF_ACCEPTED;
 }
 
+static uint32_t empty_days(const uint8_t *sheet, size_t sheet_len, uint64_t *sum, uint64_t *repeated,
+                           uint64_t *repeated_zero, uint64_t *longest, uint64_t *first, uint64_t *place)
+{
+    (void)sheet, (void)sheet_len, (void)sum, (void)repeated, (void)repeated_zero;
+    (void)longest, (void)first, (void)place;
+    return STEEPLECUFF_ACCEPTED;
+}
+
 static void choose_function(const char *name)
 {
-    if (strcmp(name, "steeplecuff") == 0)
-        call.function = steeplecuff_quantify;
-    else if (strcmp(name, "plain") == 0)
-        call.function = plain_quantify;
-    else if (strcmp(name, "empty") == 0)
-        call.function = empty_quantify;
-    else
-        exit(complain("steeplecuff, plain or empty", name));
+    static const struct functions all[] = {
+        {"steeplecuff", steeplecuff_quantify, steeplecuff_days},
+        {"plain", plain_quantify, plain_days},
+        {"empty", empty_quantify, empty_days},
+    };
+    for (size_t i = 0; i < sizeof all / sizeof all[0]; i++)
+        if (strcmp(name, all[i].name) == 0) {
+            call.functions = all[i];
+            return;
+        }
+    exit(complain("steeplecuff, plain or empty", name));
 }
 
 static void choose_file(const char *name)
 {
     if (!make_file(&call.file, name))
-        exit(complain("whole, full or refused", name));
+        exit(complain("whole, full, refused, small-year, mixed-year or refused-year", name));
 }
 
-static void make_call(void *made)
+static inline void make_quantify(void *made)
 {
     struct call *one = made;
     struct answer *answer = &one->answer;
-    answer->refusal = one->function(one->file.bytes, one->file.len, answer->plants, sizeof answer->plants,
-                                    answer->segments, sizeof answer->segments, &answer->place);
+    answer->refusal = one->functions.quantify(one->file.bytes, one->file.len, answer->plants, sizeof answer->plants,
+                                              answer->segments, sizeof answer->segments, &answer->place);
 }
 
-/* The answer of a function, the tables zero behind the rows. */
+static inline void make_days(void *made)
+{
+    struct call *one = made;
+    struct figures *figures = &one->answer.figures;
+    one->answer.refusal =
+        one->functions.days(one->file.bytes, one->file.len, &figures->sum, &figures->repeated, &figures->repeated_zero,
+                            &figures->longest, &figures->first, &one->answer.place);
+}
+
+/* What makes the call that the file is for. */
+static void (*maker(void))(void *)
+{
+    return call.file.kind == SHEET ? make_days : make_quantify;
+}
+
+/* The answer of a function, zero where the call writes nothing. */
 static struct answer answer_of(const char *function)
 {
     choose_function(function);
     memset(&call.answer, 0, sizeof call.answer);
-    make_call(&call);
+    maker()(&call);
     return call.answer;
 }
 
@@ -99,16 +139,26 @@ static int compare(const char *file)
     plain = answer_of("plain");
     bool alike = ours.refusal == call.file.refusal && plain.refusal == call.file.refusal && ours.place == plain.place &&
                  memcmp(ours.plants, plain.plants, sizeof ours.plants) == 0 &&
-                 memcmp(ours.segments, plain.segments, sizeof ours.segments) == 0;
+                 memcmp(ours.segments, plain.segments, sizeof ours.segments) == 0 &&
+                 memcmp(&ours.figures, &plain.figures, sizeof ours.figures) == 0;
     return alike ? 0 : DIFFERENT;
 }
 
+static void make_calls(void (*make)(void *), long times)
+{
+    for (long i = 0; i < times; i++)
+        make(&call);
+}
+
+/* Names both makers, so that the compiler takes each into its loop and little is counted besides the call. */
 static int repeat(const char *function, const char *file, long times)
 {
     choose_function(function);
     choose_file(file);
-    for (long i = 0; i < times; i++)
-        make_call(&call);
+    if (call.file.kind == SHEET)
+        make_calls(make_days, times);
+    else
+        make_calls(make_quantify, times);
     return 0;
 }
 
@@ -116,7 +166,7 @@ static int print_stack(const char *function, const char *file)
 {
     choose_function(function);
     choose_file(file);
-    printf("%zu\n", stack_use(make_call, &call));
+    printf("%zu\n", stack_use(maker(), &call));
     return 0;
 }
 

@@ -2,11 +2,8 @@
 
 #include <stdbool.h>
 
+#include "plain_reader.h"
 #include "steeplecuff.h"
-
-/* Seven-bit numbers. */
-enum { GROUP_BITS = 7, MOST_GROUPS = 5, GROUP_MASK = 0x7F, MORE_FOLLOW = 0x80 };
-#define LARGEST UINT32_C(4000000000) /* also of an inflow in kg */
 
 /* Limits and codes of the records. */
 enum { EDITION = 1, MOST_PLANTS = STEEPLECUFF_MOST_PLANTS, MOST_SEGMENTS = STEEPLECUFF_MOST_SEGMENTS, MOST_LINES = 512 };
@@ -48,44 +45,6 @@ struct accounts {
 
 /* The amount of each plant entering each segment; set where the plant's route passes, and read only there. */
 typedef uint64_t amounts_table[MOST_PLANTS][MOST_SEGMENTS];
-
-struct reader {
-    const uint8_t *bytes;
-    size_t len, next;
-    uint64_t place; /* the count of numbers read and tested, so the place of the number that is read now */
-};
-
-/* Reads one number; answers 0 or refusal 1, 2 or 3. */
-static uint32_t read_number(struct reader *reader, uint64_t *number)
-{
-    *number = 0;
-    for (unsigned group = 0; group < MOST_GROUPS; group++) {
-        if (reader->next == reader->len)
-            return STEEPLECUFF_REFUSED_FILE_ENDS;
-        uint8_t byte = reader->bytes[reader->next++];
-        *number |= (uint64_t)(byte & GROUP_MASK) << (GROUP_BITS * group);
-        if (byte & MORE_FOLLOW)
-            continue;
-        if (byte == 0 && group > 0)
-            return STEEPLECUFF_REFUSED_NOT_SHORTEST;
-        return *number > LARGEST ? STEEPLECUFF_REFUSED_NUMBER_OVER_LIMIT : 0;
-    }
-    return STEEPLECUFF_REFUSED_NUMBER_OVER_LIMIT;
-}
-
-/* Reads a field that may be `least` to `most`; answers 0, the number's own refusal, or `refusal` where it is outside. */
-static uint32_t read_field(struct reader *reader, uint32_t least, uint32_t most, uint32_t refusal, uint32_t *field)
-{
-    uint64_t number;
-    uint32_t fault = read_number(reader, &number);
-    if (fault != 0)
-        return fault;
-    if (number < least || number > most)
-        return refusal;
-    *field = (uint32_t)number;
-    reader->place++;
-    return 0;
-}
 
 static uint32_t read_header(struct reader *reader, struct period *period)
 {

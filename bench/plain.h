@@ -1,11 +1,16 @@
-/* The rules of 01 in plain C, with the signature of steeplecuff_quantify: what the benchmark compares with. */
+/* The calls of the header in plain C, each with the signature of its own: what the benchmark compares with. */
 #ifndef PLAIN_H
 #define PLAIN_H
 
 #include <stddef.h>
 #include <stdint.h>
 
+/* The rules of 01: steeplecuff_quantify. */
 uint32_t plain_quantify(const uint8_t *file, size_t file_len, uint8_t *plants, size_t plants_len, uint8_t *segments,
                         size_t segments_len, uint64_t *place);
+
+/* The figures of a meter's sheet: steeplecuff_days. */
+uint32_t plain_days(const uint8_t *sheet, size_t sheet_len, uint64_t *sum, uint64_t *repeated, uint64_t *repeated_zero,
+                    uint64_t *longest, uint64_t *first, uint64_t *place);
 
 #endif

@@ -1,11 +1,14 @@
 /*
- * Steeplecuff: the removal units of the capture plants of one certification period.
+ * Steeplecuff: the removal units of the capture plants of one certification period, and what a meter's daily readings
+ * come to.
  *
- * One call takes a period file and fills two tables: a row for each plant and a row for each segment. Or it refuses the
- * file, and says why and where. docs/GUIDE.md explains the file, the rows and the refusals; this page says how a C or
- * C++ program asks for them, in this order:
+ * There are two calls. steeplecuff_quantify takes a period file and fills two tables: a row for each plant and a row
+ * for each segment. steeplecuff_days takes a meter's sheet, the readings of up to a year, and gives five figures, among
+ * them on how many days the meter repeated itself. Or a call refuses what it is given, and says why and where.
+ * docs/GUIDE.md explains the file, the sheet, the rows, the figures and the refusals; this page says how a C or C++
+ * program asks for them, in this order:
  *
- *   the version . the row of a plant . the row of a segment . limits . counts . answers . the call . an example
+ *   the version . the row of a plant . the row of a segment . limits . counts . answers . quantify . days . an example
  *
  * Link with the archive target/staticlib/libhistorian.a, for x86-64, which `rt staticlib historian` proves and builds. Of
  * the C library it needs memcpy and memset. examples/historian.c is a whole program; examples/README.md builds it by
@@ -19,7 +22,7 @@
 
 /* The version of this header and of the archive that it goes with. The first part changes where callers have to change
    their code. */
-#define STEEPLECUFF_VERSION "1.0.0"
+#define STEEPLECUFF_VERSION "1.1.0"
 
 #ifdef __cplusplus
 extern "C" {
@@ -50,16 +53,19 @@ enum steeplecuff_segment_number {
 
 /*
  * How much there can be. Tables of these sizes suffice for every file. No file that can be read is longer than
- * STEEPLECUFF_MOST_FILE_BYTES: a caller that reads one byte more into a buffer and passes that gets the answer of the
- * whole file, however long it is.
+ * STEEPLECUFF_MOST_FILE_BYTES, and no sheet than STEEPLECUFF_MOST_SHEET_BYTES: a caller that reads one byte more into a
+ * buffer and passes that gets the answer of the whole file or sheet, however long it is.
  */
 enum steeplecuff_limit {
     STEEPLECUFF_MOST_PLANTS = 16,
     STEEPLECUFF_MOST_SEGMENTS = 32,
     STEEPLECUFF_MOST_LINES = 512,
+    STEEPLECUFF_MOST_DAYS = 366,  /* readings of a sheet */
     STEEPLECUFF_NUMBER_BYTES = 8, /* bytes of one number in a table */
     STEEPLECUFF_MOST_PLANT_BYTES = STEEPLECUFF_MOST_PLANTS * STEEPLECUFF_PLANT_NUMBERS * STEEPLECUFF_NUMBER_BYTES,
     STEEPLECUFF_MOST_SEGMENT_BYTES = STEEPLECUFF_MOST_SEGMENTS * STEEPLECUFF_SEGMENT_NUMBERS * STEEPLECUFF_NUMBER_BYTES,
+    /* the count and the readings, each with its most bytes: 1,832 */
+    STEEPLECUFF_MOST_SHEET_BYTES = 2 + STEEPLECUFF_MOST_DAYS * 5,
     /* the header and the records, each with the most bytes of every field: 7,029 */
     STEEPLECUFF_MOST_FILE_BYTES = (1 + 1 + 1 + 2) + STEEPLECUFF_MOST_PLANTS * (5 + 1 + 3) +
                                   STEEPLECUFF_MOST_SEGMENTS * (1 + 5 + 1) + STEEPLECUFF_MOST_LINES * (1 + 1 + 1 + 5 + 5)
@@ -70,16 +76,19 @@ enum steeplecuff_limit {
 enum steeplecuff_count_byte { STEEPLECUFF_PLANTS_BYTE = 1, STEEPLECUFF_SEGMENTS_BYTE = 2 };
 
 /*
- * What the call answers, and what its place then counts. "number" is the number of the file at fault, counted from 0;
+ * What a call answers, and what its place then counts. "number" is the number of the file at fault, counted from 0;
  * lines and segments are counted from 1. P and S are the file's counts of plants and segments, L that of lines.
+ *
+ * A sheet can get 0, 1, 2, 3, 5 and 9, which then say of the sheet what they say of a file here. Its number 0 is the
+ * count of days, which 5 is about, and its number d the reading of day d; so the place of 9 is one more than the days.
  */
 enum steeplecuff_answer {
-    STEEPLECUFF_ACCEPTED = 0,                         /* both tables are written; the place is 0 */
+    STEEPLECUFF_ACCEPTED = 0,                         /* both tables, or all figures, are written; the place is 0 */
     STEEPLECUFF_REFUSED_FILE_ENDS = 1,                /* the file ends within a number or before one that is due: number */
     STEEPLECUFF_REFUSED_NOT_SHORTEST = 2,             /* a number is not in its shortest form: number */
     STEEPLECUFF_REFUSED_NUMBER_OVER_LIMIT = 3,        /* a fifth group says more follow, or over 4,000,000,000: number */
     STEEPLECUFF_REFUSED_EDITION = 4,                  /* the edition is not 1: number */
-    STEEPLECUFF_REFUSED_COUNT = 5,                    /* P, S or L is outside its range: number */
+    STEEPLECUFF_REFUSED_COUNT = 5,                    /* P, S, L or the count of days is outside its range: number */
     STEEPLECUFF_REFUSED_PLANT_FIELD = 6,              /* a plant's field is outside its range: number */
     STEEPLECUFF_REFUSED_SEGMENT_FIELD = 7,            /* a segment's kind or next segment is not allowed: number */
     STEEPLECUFF_REFUSED_LINE_FIELD = 8,               /* a line's field is not allowed: number */
@@ -114,6 +123,32 @@ uint32_t steeplecuff_quantify(const uint8_t *file, size_t file_len, uint8_t *pla
                               uint8_t *segments, size_t segments_len, uint64_t *place);
 
 /*
+ * Works out one meter's sheet. Answers one of steeplecuff_answer and sets *place: to 0 when the sheet is accepted, else
+ * to the place of the fault.
+ *
+ * In:   sheet[0 .. sheet_len - 1], the sheet: numbers written as in a period file, first the count of days, 1 to
+ *       STEEPLECUFF_MOST_DAYS, then for each day its reading in kg, and nothing behind the last. It is only read; every
+ *       content and length is answered.
+ * Out:  the five figures, on acceptance. A run is a stretch of days that all have the same reading, above 0; one day
+ *       that differs from its neighbours is a run of 1.
+ *       *sum            the readings added up, in kg
+ *       *repeated       how many days have the reading of the day before, and it is above 0
+ *       *repeated_zero  how many days have the reading of the day before, and it is 0
+ *       *longest        how many days the longest run has; 0 where every reading is 0
+ *       *first          the day, counted from 1, on which that run begins, the earliest of several as long; 0 likewise
+ *       A refusal leaves the five as they were.
+ *
+ * The caller owes: no pointer is null, also that of an empty sheet; the sheet is good for its length; the figures and
+ * *place overlap neither each other nor the sheet.
+ *
+ * As the first call, this one keeps nothing from one call to the next and has no global state: threads may make either
+ * at the same time, each with figures and a place of its own, on the same sheet if they like. It allocates nothing,
+ * calls nothing back and ends for every input. It uses some 200 bytes of stack, whatever the sheet (docs/PERFORMANCE.md).
+ */
+uint32_t steeplecuff_days(const uint8_t *sheet, size_t sheet_len, uint64_t *sum, uint64_t *repeated,
+                          uint64_t *repeated_zero, uint64_t *longest, uint64_t *first, uint64_t *place);
+
+/*
 Example:
 
     #include <inttypes.h>
@@ -141,6 +176,19 @@ Example:
         for (size_t plant = 0; plant < file[STEEPLECUFF_PLANTS_BYTE]; plant++)
             printf("plant %zu: %" PRIu64 " units\n", plant + 1,
                    number_of(plants, plant * STEEPLECUFF_PLANT_NUMBERS + STEEPLECUFF_PLANT_UNITS));
+    }
+
+    void print_longest_run(const uint8_t *sheet, size_t sheet_len)
+    {
+        uint64_t sum, repeated, repeated_zero, longest, first, place;
+        uint32_t refusal =
+            steeplecuff_days(sheet, sheet_len, &sum, &repeated, &repeated_zero, &longest, &first, &place);
+        if (refusal != STEEPLECUFF_ACCEPTED)
+            printf("refused: %" PRIu32 " at %" PRIu64 "\n", refusal, place);
+        else if (longest == 0)
+            printf("nothing was metered\n");
+        else
+            printf("the same reading on %" PRIu64 " days, from day %" PRIu64 " on\n", longest, first);
     }
 */
 

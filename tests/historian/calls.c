@@ -1,10 +1,11 @@
 /* calls [guarded]: calls steeplecuff_quantify as the historian does and checks every byte of what comes back: the whole
    period of 01, its proved cases, tables of many lengths, and the longest file. Prints a line for each call, begun before
    it is made, so that the last line tells where the program died; then 'N passed, M failed'. */
-#include <inttypes.h>
 #include <stdio.h>
 #include <string.h>
 
+#include "checks.h"
+#include "numbers.h"
 #include "one_call.h"
 #include "period_file.h"
 #include "steeplecuff.h"
@@ -59,16 +60,6 @@ static const struct rows no_loss_rows = {
      15001, 14899, 102, 0, 3}};
 
 static struct one_call call;
-static unsigned passed, failed;
-
-static bool answer_is(const struct expected *expected)
-{
-    if (call.refusal == expected->refusal && call.place == expected->place)
-        return true;
-    printf("FAILED, it is %" PRIu32 " at %" PRIu64 " and should be %" PRIu32 " at %" PRIu64 "\n", call.refusal, call.place,
-           expected->refusal, expected->place);
-    return false;
-}
 
 /* Whether the table's first `count` entries are the numbers, and every byte after them is as it was before. */
 static bool table_is(const char *name, const struct block *table, const uint64_t *numbers, size_t count,
@@ -97,18 +88,10 @@ static bool tables_are(const struct rows *rows)
 /* Makes one call, and prints and counts whether all is as expected. */
 static void check(const char *name, struct bytes file, struct lengths lengths, struct expected expected)
 {
-    printf("%s: ", name);
-    fflush(stdout);
+    check_begin(name);
     const char *changed = one_call_make(&call, file.at, file.len, lengths.plants, lengths.segments);
-    if (changed != NULL) {
-        printf("FAILED, %s\n", changed);
-        failed++;
-    } else if (answer_is(&expected) && tables_are(expected.rows)) {
-        puts("passed");
-        passed++;
-    } else {
-        failed++;
-    }
+    check_end(all_stayed(changed) && answer_is(call.refusal, call.place, expected.refusal, expected.place) &&
+              tables_are(expected.rows));
     one_call_end(&call);
 }
 
@@ -217,13 +200,7 @@ static void check_longest(void)
         len += put_numbers(file + len, store, SEGMENT);
     for (int i = 0; i < STEEPLECUFF_MOST_LINES; i++)
         len += put_numbers(file + len, line, LINE);
-    if (len == STEEPLECUFF_MOST_FILE_BYTES) {
-        puts("the longest file has the header's length: passed");
-        passed++;
-    } else {
-        printf("the longest file has the header's length: FAILED, it has %zu bytes\n", len);
-        failed++;
-    }
+    check_length("the longest file has the header's length", len, STEEPLECUFF_MOST_FILE_BYTES);
     check("the longest file", (struct bytes){file, len}, exact, (struct expected){10, 1, NULL});
     check("the longest file less a byte", (struct bytes){file, len - 1}, exact, (struct expected){1, NUMBERS - 1, NULL});
     check("the longest file and one byte more", (struct bytes){file, len + EXTRA_BYTES}, exact, (struct expected){9, NUMBERS, NULL});
@@ -236,6 +213,5 @@ int main(int argc, char **argv)
     check_edits();
     check_lengths();
     check_longest();
-    printf("%u passed, %u failed\n", passed, failed);
-    return failed == 0 ? 0 : 1;
+    return checks_done();
 }

@@ -1,0 +1,27 @@
+/* Named checks, a line for each: 'NAME: passed', or 'NAME: FAILED, ' and what is wrong. */
+#ifndef CHECKS_H
+#define CHECKS_H
+
+#include <stdbool.h>
+#include <stddef.h>
+#include <stdint.h>
+
+/* Prints the name at once, so that the last line tells where a program died. */
+void check_begin(const char *name);
+
+/* Whether a call left alone what it must: `changed` is NULL then, else what changed in words, which is printed. */
+bool all_stayed(const char *changed);
+
+/* Whether the refusal and its place are those that are due; where they are not, prints both. */
+bool answer_is(uint32_t refusal, uint64_t place, uint32_t refusal_due, uint64_t place_due);
+
+/* Ends the check and counts it. Where all is not right, what is wrong was printed before, after 'FAILED, '. */
+void check_end(bool right);
+
+/* One check: that the longest of its kind has the length that the header gives. */
+void check_length(const char *name, size_t len, size_t len_of_header);
+
+/* Prints 'N passed, M failed'; answers the status to end with, 1 where a check failed. */
+int checks_done(void);
+
+#endif
