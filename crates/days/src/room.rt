@@ -2,7 +2,7 @@
 ghost use Prim.Native.Nat.{_+_};
 ghost use mathlib.Core.Path.{_≡_};
 ghost use lib.ListN.{length};
-ghost use Rattle.meter.specs.Sheets.{mostBytes};
+ghost use Rattle.meter.specs.Sheets.{mostSheetBytes};
 use meter::Sheet;
 
 // One byte more than the longest sheet has: it shows that a sheet goes on, and no byte after it can
@@ -11,7 +11,7 @@ const ROOM: usize = Sheet::BYTES + 1;
 
 // Zeros, with room for what is read.
 pub(crate) fn room() -> [u8; ROOM]
-    ensures { λ r. ⌜ mostBytes + 1 ≡ length r ⌝ }
+    ensures { λ r. ⌜ mostSheetBytes + 1 ≡ length r ⌝ }
 {
     [0; ROOM]
 }
