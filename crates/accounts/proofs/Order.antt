@@ -2,9 +2,9 @@
 -- does; it is accepted exactly when none holds. `specs/AllTests.antt` lists the reasons as tests, each at its place, in that order. Here the
 -- answer to a file is shown to be that of the first test that fails, and the rows of the period that stands in the file where none fails.
 use Prim.Native.Nat.{ℕ}
-use mathlib.Core.Path.{_≡_, refl, sym, ap, _∙_}
+use mathlib.Core.Path.{_≡_, sym, ap, _∙_}
 use mathlib.Core.Logic.{_↔_}
-use mathlib.Core.List.{List, [], _∷_, _++_}
+use mathlib.Core.List.{List, [], _++_}
 use Rattle.fields.specs.Readers.{Read}
 use Rattle.fields.specs.Tests.{Test, FirstFails, NoneFails}
 use Rattle.fields.proofs.Testing.{first-answers, none-answers, listed-length}

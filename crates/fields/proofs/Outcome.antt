@@ -1,8 +1,9 @@
 -- No two outcomes meet a promise of this crate: what an answer says in 01's terms determines the answer.
-use Prim.Native.Nat.{ℕ}
+use Prim.Native.Nat.{ℕ, zero, suc, _<_}
 use mathlib.Core.Path.{_≡_, refl, sym, ap, ap₂, _∙_}
 use mathlib.Core.Bool.{true≢false}
 use mathlib.Core.List.{List, [], _∷_}
+use native.Mathlib.Omega.{arith}
 use lib.ListN.{getD}
 use Rattle.fields.specs.declared.answer.Answer.{Answer}
 use Rattle.fields.specs.declared.answer.Answer.the-variants.{Accepted, Refused}
@@ -44,6 +45,17 @@ reason-back SegmentTableShort = refl
 
 pub numbered-once : (a b : Reason) → numberOf a ≡ numberOf b → a ≡ b
 numbered-once a b e = sym (reason-back a) ∙ ap (λ (n : ℕ). getD numbered n Ends) e ∙ reason-back b
+
+-- and none has 0, which says that a file is accepted
+pub numbered-above : (reason : Reason) → 0 < numberOf reason
+unfolding numbered
+numbered-above reason = by-number (numberOf reason) refl
+  where
+    by-number : (n : ℕ) → numberOf reason ≡ n → 0 < n
+    by-number (suc n) is = omega arith
+    by-number zero is =
+        let first : reason ≡ Ends = sym (reason-back reason) ∙ ap (λ (n : ℕ). getD numbered n Ends) is in
+        absurd (omega (arith, sym (ap (λ (r : Reason). numberOf r) first) ∙ is))
 
 -- ---- so two refusals, two answers or two takings that say the same are the same
 pub refusal-once : (a b : Refusal) → numberOf (a .reason) ≡ numberOf (b .reason) → a .place ≡ b .place → a ≡ b

@@ -1,11 +1,12 @@
 -- Tests in their order, over any form of answer: the first that fails refuses, and where none fails the answer stands.
-use Prim.Native.Nat.{ℕ, zero, suc}
+use Prim.Native.Nat.{ℕ, zero, suc, _<_}
 use mathlib.Core.Path.{_≡_, refl, ap}
 use mathlib.Core.Bool.{Bool, true, false, cond}
 use mathlib.Core.List.{List, [], _∷_, _++_}
 use lib.ListN.{length, getD}
 use Rattle.fields.specs.Reasons.{numberOf}
 use Rattle.fields.specs.Tests.{Test, testedBy, FirstFails, here, later, NoneFails, end, holds, listed}
+use Rattle.fields.proofs.Outcome.{numbered-above}
 
 module _ {A : Type 0} (refuse : (number place : ℕ) → A) where
   -- ---- the first test that fails gives the answer
@@ -54,6 +55,11 @@ module _ {A : Type 0} (refuse : (number place : ℕ) → A) where
           let place-is = same .1 in
           rw (← number-is, ← place-is) (here h)
       by-test false h e again = later h (again e)
+
+-- ---- what a test refuses with is never 0
+pub first-numbered : {tests : List Test} {number place : ℕ} → FirstFails tests number place → 0 < number
+first-numbered (here {test} h) = numbered-above (test .reason)
+first-numbered (later h more) = first-numbered more
 
 -- ---- where none of all tests fails, none of the first ones and none of those behind them does
 pub none-of-both : (tests rest : List Test) → NoneFails (tests ++ rest) → NoneFails tests × NoneFails rest

@@ -8,3 +8,5 @@ mod Sheets
 pub mod Outcome
 -- The tables of the C caller, read as numbers.
 pub mod LentBytes
+-- What a C caller finds of a sheet.
+pub mod SheetFigures

@@ -9,7 +9,7 @@ use Rattle.meter.specs.declared.figures.Figures.{Figures}
 use Rattle.meter.specs.declared.call.MeterDays.{MeterDays}
 use Rattle.meter.specs.declared.call.MeterDays.the-variants.{Counted, Refused}
 use Rattle.meter.specs.Days.{SheetAnswer, figures, refusal, sheetVerdict, meterDays, daysTold, DaysPromise}
-use Rattle.historian.specs.Sheets.{figuresAfter, DaysOutcome, DaysEntryPromise}
+use Rattle.historian.specs.Sheets.{figuresAfter, DaysEntryPromise}
 
 -- what an answer leaves, where it is the one to the sheet
 left-by : (sheet : List ℕ) (before : Figures) (answer : SheetAnswer) → answer ≡ meterDays sheet →

@@ -17,7 +17,7 @@ use Rattle.fields.specs.Answers.{accepts, refuses, said}
 use Rattle.fields.specs.Tests.{Test, testedBy}
 use Rattle.records.specs.declared.counts.Counts.{Counts}
 use Rattle.accounts.specs.Accounts.{Account}
-use Rattle.accounts.specs.Order.{accepted, tested, segmentTests, plantNumbers, segmentNumbers, tableTests}
+use Rattle.accounts.specs.Order.{accepted, segmentTests, plantNumbers, segmentNumbers, tableTests}
 use Rattle.accounts.proofs.Testing.{none-fails}
 use Rattle.accounts.proofs.Accepting.{Sound, sound-each, table-room}
 use Rattle.period.specs.declared.flow.Due.{Due}

@@ -1,8 +1,7 @@
 -- The reading of a period, along its fields: which field stands at which place, by what the header announces; there is room for it in the
 -- longest file; and what is held in the end is as announced, each record within its limits.
-use Prim.Native.Nat.{ℕ, suc, _+_, _*_, _^_, _≤_, _<_}
+use Prim.Native.Nat.{ℕ, suc, _+_, _*_, _≤_, _<_}
 use mathlib.Core.Path.{_≡_, refl, sym, _∙_}
-use mathlib.Core.Bool.{Bool, true}
 use mathlib.Core.List.{List}
 use native.Mathlib.Omega.{arith}
 use borrow.Author.Tests.{leb-true, eqb-true}
@@ -10,7 +9,6 @@ use Rattle.number.specs.Groups.{mostGroups}
 use Rattle.fields.specs.declared.reason.Reason.{Reason}
 use Rattle.fields.specs.declared.reason.Reason.the-variants.{WrongEdition, WrongCount, WrongPlant, WrongSegment, WrongLine}
 use Rattle.fields.specs.Reasons.{numberOf}
-use Rattle.fields.specs.Readers.{Reader, needs}
 use Rattle.fields.specs.Lists.{Each}
 use Rattle.fields.proofs.Along.{Along, done, one-field, one-then, along-on, so-many}
 use Rattle.fields.proofs.Ranges.{at-least, at-most}
