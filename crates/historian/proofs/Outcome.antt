@@ -4,7 +4,7 @@ use mathlib.Core.Path.{_≡_, sym, ap, _∙_}
 use mathlib.Core.List.{List}
 use Rattle.meter.specs.declared.figures.Figures.{Figures}
 use Rattle.historian.specs.Tables.{Outcome, EntryPromise}
-use Rattle.historian.specs.Sheets.{DaysOutcome, DaysEntryPromise}
+use Rattle.historian.specs.Sheets.{DaysOutcome, leaves, DaysEntryPromise}
 
 -- an outcome by its parts
 abbrev made : (result place : ℕ) (plants segments : List ℕ) → Outcome
@@ -22,9 +22,6 @@ one-outcome file plants segments a b p q =
 pub one-days-outcome :
     (sheet : List ℕ) (before : Figures) (a b : DaysOutcome) → DaysEntryPromise sheet before a → DaysEntryPromise sheet before b → a ≡ b
 one-days-outcome sheet before a b p q =
-    ap (λ (x : ℕ). left x (a .place) (a .figures)) (p .result ∙ sym (q .result))
-    ∙ ap (λ (x : ℕ). left (b .result) x (a .figures)) (p .place ∙ sym (q .place))
-    ∙ ap (left (b .result) (b .place)) (p .figures-after ∙ sym (q .figures-after))
-  where
-    left : (result place : ℕ) (figures : Figures) → DaysOutcome
-    left result place figures = record { result = result; place = place; figures = figures }
+    ap (λ (x : ℕ). leaves x (a .place) (a .figures)) (p .result ∙ sym (q .result))
+    ∙ ap (λ (x : ℕ). leaves (b .result) x (a .figures)) (p .place ∙ sym (q .place))
+    ∙ ap (leaves (b .result) (b .place)) (p .figures-after ∙ sym (q .figures-after))

@@ -9,15 +9,11 @@ use Rattle.meter.specs.declared.figures.Figures.{Figures}
 use Rattle.meter.specs.declared.call.MeterDays.{MeterDays}
 use Rattle.meter.specs.declared.call.MeterDays.the-variants.{Counted, Refused}
 use Rattle.meter.specs.Days.{SheetAnswer, figures, refusal, sheetVerdict, meterDays, daysTold, DaysPromise}
-use Rattle.historian.specs.Sheets.{figuresAfter, DaysEntryPromise}
+use Rattle.historian.specs.Sheets.{figuresAfter, leaves, DaysEntryPromise}
 
 -- what an answer leaves, where it is the one to the sheet
 left-by : (sheet : List ℕ) (before : Figures) (answer : SheetAnswer) → answer ≡ meterDays sheet →
-    DaysEntryPromise sheet before (record {
-      result = refusalNumber (sheetVerdict answer);
-      place = refusalPlace (sheetVerdict answer);
-      figures = figuresAfter answer before;
-    })
+    DaysEntryPromise sheet before (leaves (refusalNumber (sheetVerdict answer)) (refusalPlace (sheetVerdict answer)) (figuresAfter answer before))
 left-by sheet before answer is = record {
   result = ap (λ (a : SheetAnswer). refusalNumber (sheetVerdict a)) is;
   place = ap (λ (a : SheetAnswer). refusalPlace (sheetVerdict a)) is;
@@ -28,9 +24,9 @@ module _ (sheet : List ℕ) (before : Figures) (answer : MeterDays) (promised : 
   -- a refusal leaves the figures as they were
   pub refused-leaves :
       (why : Refusal) → answer ≡ Refused why →
-      DaysEntryPromise sheet before (record { result = numberOf (why .reason); place = why .place; figures = before })
+      DaysEntryPromise sheet before (leaves (numberOf (why .reason)) (why .place) before)
   refused-leaves why is = left-by sheet before (refusal (numberOf (why .reason)) (why .place)) (ap daysTold (sym is) ∙ promised)
 
   -- acceptance leaves those of the sheet
-  pub counted-leaves : (found : Figures) → answer ≡ Counted found → DaysEntryPromise sheet before (record { result = 0; place = 0; figures = found })
+  pub counted-leaves : (found : Figures) → answer ≡ Counted found → DaysEntryPromise sheet before (leaves 0 0 found)
   counted-leaves found is = left-by sheet before (figures found) (ap daysTold (sym is) ∙ promised)

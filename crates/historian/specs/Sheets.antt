@@ -17,6 +17,13 @@ pub record DaysOutcome : Type 0 where
   pub place : ℕ
   pub figures : Figures
 
+-- The five numbers that a caller lends, as figures, and what it is left with, both in the order of the call.
+abbrev pub five : (sum repeated zeros longest first : ℕ) → Figures
+five sum repeated zeros longest first = record { sum = sum; repeated = repeated; «repeated_zero» = zeros; longest = longest; first = first }
+
+abbrev pub leaves : (result place : ℕ) → Figures → DaysOutcome
+leaves result place found = record { result = result; place = place; figures = found }
+
 -- The promise of the call: the number of refusal and the place, 0 and 0 where the sheet is accepted, and the figures.
 pub record DaysEntryPromise (sheet : List ℕ) (before : Figures) (outcome : DaysOutcome) : Type 0 where
   pub result : outcome .result ≡ refusalNumber (sheetVerdict (meterDays sheet))

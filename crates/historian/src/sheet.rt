@@ -1,5 +1,5 @@
 // The entry for a meter's sheet, which the historian calls from C.
-ghost use Rattle.historian.specs.Sheets.{DaysEntryPromise};
+ghost use Rattle.historian.specs.Sheets.{five, leaves, DaysEntryPromise};
 use meter::MeterDays;
 use meter::days;
 
@@ -16,7 +16,10 @@ pub extern "C" fn steeplecuff_days(
     first: &mut u64,
     place: &mut u64,
 ) -> u32
-    ensures { λ r. ⌜ DaysEntryPromise (now (sheet .entry)) (record { sum = now (sum .entry); repeated = now (repeated .entry); «repeated_zero» = now («repeated_zero» .entry); longest = now (longest .entry); first = now (first .entry) }) (record { result = r; place = now (place .exit); figures = record { sum = now (sum .exit); repeated = now (repeated .exit); «repeated_zero» = now («repeated_zero» .exit); longest = now (longest .exit); first = now (first .exit) } }) ⌝ }
+    ensures { λ r. ⌜ DaysEntryPromise
+        (now (sheet .entry))
+        (five (now (sum .entry)) (now (repeated .entry)) (now («repeated_zero» .entry)) (now (longest .entry)) (now (first .entry)))
+        (leaves r (now (place .exit)) (five (now (sum .exit)) (now (repeated .exit)) (now («repeated_zero» .exit)) (now (longest .exit)) (now (first .exit)))) ⌝ }
 {
     match days(sheet) {
         MeterDays::Refused(refusal) => {
