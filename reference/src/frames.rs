@@ -5,24 +5,39 @@
 use crate::questions::Question;
 use std::fmt;
 
-/// Bytes of a length.
-const LENGTH_BYTES: usize = 4;
-
-/// The input ends inside a frame.
+/// Why a frame cannot be read.
 #[derive(Debug, PartialEq, Eq)]
-pub struct CutShort {
-    /// Frames that stand whole before it.
-    whole_frames: usize,
+pub enum FrameFault {
+    /// The input ends inside it.
+    CutShort,
+    /// It starts with another byte than the letter of the kind that is read.
+    OtherKind { came: u8, expected: u8 },
 }
 
-impl fmt::Display for CutShort {
+/// A frame that cannot be read.
+#[derive(Debug, PartialEq, Eq)]
+pub struct UnreadFrame {
+    /// Frames that stand whole before it.
+    whole_frames: usize,
+    fault: FrameFault,
+}
+
+impl fmt::Display for UnreadFrame {
     fn fmt(&self, out: &mut fmt::Formatter) -> fmt::Result {
-        let CutShort { whole_frames } = self;
-        write!(
-            out,
-            "the input ends inside a frame, after {whole_frames} whole frames; \
-             give every frame as many bytes as its length says"
-        )
+        let whole_frames = self.whole_frames;
+        match self.fault {
+            FrameFault::CutShort => write!(
+                out,
+                "the input ends inside a frame, after {whole_frames} whole frames; \
+                 give every frame as many bytes as its length says"
+            ),
+            FrameFault::OtherKind { came, expected } => write!(
+                out,
+                "a frame starts with the byte 0x{came:02X}, after {whole_frames} whole frames; \
+                 give only frames that start with 0x{expected:02X}, the letter {}",
+                char::from(expected)
+            ),
+        }
     }
 }
 
@@ -36,12 +51,13 @@ pub fn write_frames<Q: Question>(cases: &[Q]) -> Vec<u8> {
 }
 
 /// Reads frames up to the end of the input.
-pub fn read_frames<Q: Question>(input: &[u8]) -> Result<Vec<Q>, CutShort> {
+pub fn read_frames<Q: Question>(input: &[u8]) -> Result<Vec<Q>, UnreadFrame> {
     let mut cases = Vec::new();
     let mut rest = input;
     while !rest.is_empty() {
-        let (case, after) = Q::first_frame(rest).ok_or(CutShort {
+        let (case, after) = Q::first_frame(rest).map_err(|fault| UnreadFrame {
             whole_frames: cases.len(),
+            fault,
         })?;
         cases.push(case);
         rest = after;
@@ -61,17 +77,30 @@ pub fn write_length(length: usize, frames: &mut Vec<u8>) {
     frames.extend(length.to_le_bytes());
 }
 
-/// The file that stands first in the input and what follows it; nothing if it is cut short.
-pub fn first_file(input: &[u8]) -> Option<(&[u8], &[u8])> {
+/// The file that stands first in the input and what follows it.
+pub fn first_file(input: &[u8]) -> Result<(&[u8], &[u8]), FrameFault> {
     let (length, rest) = first_length(input)?;
-    split(rest, length)
+    first_bytes(rest, length)
 }
 
-/// The length that stands first in the input and what follows it; nothing if it is cut short.
-pub fn first_length(input: &[u8]) -> Option<(usize, &[u8])> {
-    let (length, rest) = split(input, LENGTH_BYTES)?;
-    let length = u32::from_le_bytes(length.try_into().ok()?);
-    Some((usize::try_from(length).ok()?, rest))
+/// The length that stands first in the input and what follows it.
+pub fn first_length(input: &[u8]) -> Result<(usize, &[u8]), FrameFault> {
+    let (length, rest) = first_array(input)?;
+    // No input has as many bytes as a length that does not fit here.
+    let length = usize::try_from(u32::from_le_bytes(length)).map_err(|_| FrameFault::CutShort)?;
+    Ok((length, rest))
+}
+
+/// As many bytes of a frame as the array has, and what follows them.
+pub fn first_array<const N: usize>(input: &[u8]) -> Result<([u8; N], &[u8]), FrameFault> {
+    let (bytes, rest) = first_bytes(input, N)?;
+    let bytes = bytes.try_into().expect("as many bytes as the array has");
+    Ok((bytes, rest))
+}
+
+/// So many bytes of a frame and what follows them.
+pub fn first_bytes(input: &[u8], length: usize) -> Result<(&[u8], &[u8]), FrameFault> {
+    split(input, length).ok_or(FrameFault::CutShort)
 }
 
 /// The first bytes of the input and the rest; nothing if there are fewer.
@@ -129,8 +158,9 @@ mod tests {
             let expected = if length == first {
                 Ok(cases[..1].to_vec())
             } else {
-                Err(CutShort {
+                Err(UnreadFrame {
                     whole_frames: usize::from(length > first),
+                    fault: FrameFault::CutShort,
                 })
             };
             assert_eq!(read_frames(&frames[..length]), expected, "length {length}");
@@ -138,16 +168,20 @@ mod tests {
     }
 
     #[test]
-    fn frame_of_a_number_is_place_then_length_then_bytes() {
+    fn frame_of_a_number_is_letter_then_place_then_length_then_bytes() {
         let frames = write_frames(&two_numbers()[..1]);
-        let expected = [8, 7, 6, 5, 4, 3, 2, 1, 2, 0, 0, 0, 0xAC, 0x02];
+        let expected = [0x4E, 8, 7, 6, 5, 4, 3, 2, 1, 2, 0, 0, 0, 0xAC, 0x02];
         assert_eq!(frames, expected);
     }
 
     #[test]
-    fn frame_of_a_period_is_length_then_bytes() {
+    fn frame_of_a_period_is_letter_then_no_place_then_length_then_bytes() {
         let frames = write_frames(&two_files());
-        assert_eq!(frames, [3, 0, 0, 0, 0x01, 0x02, 0x80, 0, 0, 0, 0]);
+        let expected = [
+            &[0x50, 0, 0, 0, 0, 0, 0, 0, 0, 3, 0, 0, 0, 0x01, 0x02, 0x80][..],
+            &[0x50, 0, 0, 0, 0, 0, 0, 0, 0, 0, 0, 0, 0],
+        ];
+        assert_eq!(frames, expected.concat());
     }
 
     #[test]
@@ -169,5 +203,37 @@ mod tests {
         assert_read_back(&two_files());
         assert_read_back(&two_calls());
         assert_read_back(&two_sheets());
+    }
+
+    /// Asserts what is said of the input whose frames are read as this question's.
+    fn assert_said<Q: Question + Debug>(input: &[u8], said: &str) {
+        let unread = read_frames::<Q>(input).expect_err("the input is not read");
+        assert_eq!(unread.to_string(), said);
+    }
+
+    #[test]
+    fn frame_of_another_kind_is_said_with_what_to_do() {
+        let numbers = write_frames(&two_numbers());
+        let files = write_frames(&two_files());
+        assert_said::<NumberAt>(
+            &[&numbers[..], &files].concat(),
+            "a frame starts with the byte 0x50, after 2 whole frames; \
+             give only frames that start with 0x4E, the letter N",
+        );
+        assert_said::<PeriodFile>(
+            &numbers,
+            "a frame starts with the byte 0x4E, after 0 whole frames; \
+             give only frames that start with 0x50, the letter P",
+        );
+    }
+
+    #[test]
+    fn cut_is_said_with_what_to_do() {
+        let files = write_frames(&two_files());
+        assert_said::<PeriodFile>(
+            &files[..files.len() - 1],
+            "the input ends inside a frame, after 1 whole frames; \
+             give every frame as many bytes as its length says",
+        );
     }
 }

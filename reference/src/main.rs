@@ -2,6 +2,7 @@
 //! answers with those of another program.
 
 mod answer_line;
+mod asked_file;
 mod compare;
 mod file_bytes;
 mod frames;

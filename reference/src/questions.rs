@@ -1,6 +1,8 @@
 //! What can be asked of a program: many questions in one run, one answer for each, or what it
 //! prints when it is started for one file.
 
+use crate::frames::FrameFault;
+
 /// A question that is put to a program as a frame of bytes and has one right answer.
 pub trait Question: Sized {
     /// The form of its answer.
@@ -12,8 +14,8 @@ pub trait Question: Sized {
     /// Appends the frame that puts the question.
     fn write_frame(&self, frames: &mut Vec<u8>);
 
-    /// The question of the first frame and what follows it; nothing if the frame is cut short.
-    fn first_frame(input: &[u8]) -> Option<(Self, &[u8])>;
+    /// The question of the first frame and what follows it.
+    fn first_frame(input: &[u8]) -> Result<(Self, &[u8]), FrameFault>;
 
     /// Our own answer.
     fn answer(&self) -> Self::Answer;

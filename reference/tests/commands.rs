@@ -39,8 +39,8 @@ const WHOLE_PERIOD: [u8; 37] = [
 #[test]
 fn frames_are_answered_line_by_line() {
     let frames = [
-        &[1, 0, 0, 0, 0, 0, 0, 0, 3, 0, 0, 0, 0xFF, 0xAC, 0x02][..],
-        &[7, 0, 0, 0, 0, 0, 0, 0, 0, 0, 0, 0],
+        &[b'N', 1, 0, 0, 0, 0, 0, 0, 0, 3, 0, 0, 0, 0xFF, 0xAC, 0x02][..],
+        &[b'N', 7, 0, 0, 0, 0, 0, 0, 0, 0, 0, 0, 0],
     ];
     let output = run(&["answer", "numbers"], &frames.concat());
     assert_eq!(text(&output.stdout), "N 300 3\nR 1 7\n");
@@ -49,20 +49,40 @@ fn frames_are_answered_line_by_line() {
 
 #[test]
 fn frame_cut_short_is_said() {
-    let output = run(&["answer", "numbers"], &[0; 11]);
+    let one_byte_missing = [b'N', 0, 0, 0, 0, 0, 0, 0, 0, 0, 0, 0];
+    let output = run(&["answer", "numbers"], &one_byte_missing);
     assert_eq!(text(&output.stdout), "");
     assert!(text(&output.stderr).contains("ends inside a frame"));
     assert_eq!(output.status.code(), Some(2));
 }
 
 #[test]
+fn frame_of_another_kind_is_said() {
+    let number = [b'N', 0, 0, 0, 0, 0, 0, 0, 0, 1, 0, 0, 0, 0x05];
+    for (what, came, whole_frames, letter) in [
+        ("numbers", period_frame(&[]), 1, "0x4E, the letter N"),
+        ("readings", vec![], 0, "0x50, the letter P"),
+    ] {
+        let output = run(&["answer", what], &[&number[..], &came].concat());
+        assert_eq!(text(&output.stdout), "");
+        let message = text(&output.stderr);
+        assert!(message.ends_with(&format!(
+            ", after {whole_frames} whole frames; give only frames that start with {letter}\n"
+        )));
+        assert_eq!(output.status.code(), Some(2));
+    }
+}
+
+/// The frame that asks how a period file of less than 256 bytes is read.
+fn period_frame(file: &[u8]) -> Vec<u8> {
+    let length = u8::try_from(file.len()).expect("the file is short");
+    let head = [b'P', 0, 0, 0, 0, 0, 0, 0, 0, length, 0, 0, 0];
+    [&head[..], file].concat()
+}
+
+#[test]
 fn period_files_are_answered_line_by_line() {
-    let frames = [
-        &[37, 0, 0, 0][..],
-        &WHOLE_PERIOD,
-        &[0, 0, 0, 0],
-        &[2, 0, 0, 0, 0x01, 0x00],
-    ];
+    let frames = [&WHOLE_PERIOD[..], &[], &[0x01, 0x00]].map(period_frame);
     let output = run(&["answer", "readings"], &frames.concat());
     assert_eq!(
         text(&output.stdout),
@@ -74,8 +94,9 @@ fn period_files_are_answered_line_by_line() {
 
 #[test]
 fn period_file_cut_short_is_said() {
-    for input in [&[0, 0, 0, 0, 1, 0, 0][..], &[0, 0, 0, 0, 2, 0, 0, 0, 0x01]] {
-        let output = run(&["answer", "readings"], input);
+    let whole = [period_frame(&[]), period_frame(&[0x01, 0x02])].concat();
+    for missing in [1, 2, 3, 14] {
+        let output = run(&["answer", "readings"], &whole[..whole.len() - missing]);
         assert_eq!(text(&output.stdout), "");
         let message = text(&output.stderr);
         assert!(message.contains("ends inside a frame, after 1 whole frames; give every frame"));
@@ -188,7 +209,7 @@ fn program_that_prints_on_standard_error_fails() {
     let other = ["compare", "rows", "--", REFERENCE, "answer", "readings"];
     let output = run(&other, &[]);
     let report = text(&output.stdout);
-    assert!(report.contains("standard error is not empty: \"the input ends inside a frame"));
+    assert!(report.contains("standard error is not empty: \"a frame starts with the byte 0x01, "));
     assert_eq!(report.lines().last(), Some("0 passed, 5 failed"));
     assert_eq!(output.status.code(), Some(1));
 }

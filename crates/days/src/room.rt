@@ -1,4 +1,4 @@
-// Room for a sheet, as far as its bytes can change the answer.
+// Room for a sheet, as far as its bytes can change the answer, and then for the answer's text.
 ghost use Prim.Native.Nat.{_+_};
 ghost use mathlib.Core.Path.{_≡_};
 ghost use lib.ListN.{length};
@@ -6,10 +6,10 @@ ghost use Rattle.meter.specs.Sheets.{mostSheetBytes};
 use meter::Sheet;
 
 // One byte more than the longest sheet has: it shows that a sheet goes on, and no byte after it can
-// change the answer (`longer`, proofs/Longest.antt of `meter`).
+// change the answer (`any-sheet`, proofs/AnyFile.antt). The text of every answer is much shorter.
 const ROOM: usize = Sheet::BYTES + 1;
 
-// Zeros, with room for what is read.
+// Zeros, with room for what is read and for what is printed.
 pub(crate) fn room() -> [u8; ROOM]
     ensures { λ r. ⌜ mostSheetBytes + 1 ≡ length r ⌝ }
 {

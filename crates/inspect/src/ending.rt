@@ -1,13 +1,24 @@
 // How a page ends: 01's line where reading refuses the file, and a last line that says where the walk
-// stopped. Each function answers whether all that it prints could be written.
-use crate::text::print_number;
-use crate::text::print_words;
-use crate::words::print_field;
+// stopped.
+ghost use Prim.Native.Nat.{_≤_};
+ghost use mathlib.Core.Path.{_≡_};
+ghost use lib.ListN.{length};
+ghost use Rattle.fields.specs.Answers.{said};
+ghost use Rattle.number.specs.Finding.{finds};
+ghost use Rattle.output.specs.Put.{Put};
+ghost use Rattle.inspect.specs.Page.{faultyLine, stopOf, stoppedAt, verdictText, stopLine, pageEnd, mostText};
+use crate::words::put_field;
 use fields::Answer;
 use inspector::Field;
 use inspector::step_at;
-use libc::STDOUT_FILENO;
 use number::Number;
+use output::print;
+use output::put_line;
+use output::put_number;
+use output::put_refusal;
+use output::put_spaced;
+use output::put_words;
+use records::read;
 
 // Where a walk stops.
 enum Stop {
@@ -19,53 +30,98 @@ enum Stop {
     Cut,
 }
 
-// Prints how the page ends of a walk that stopped at a place, a byte and a field. The number there has
-// its line too where it has a fault, without a value.
-pub(crate) fn print_ending(file: &[u8], cut: bool, place: u64, at: usize, field: Field) -> bool {
+// Prints how the page ends of a walk that stopped at a place, a byte and a field, with room for that.
+pub(crate) fn print_ending(
+    room: &mut [u8],
+    file: &[u8],
+    cut: bool,
+    place: u64,
+    at: usize,
+    field: Field,
+)
+    requires { ⌜ mostText ≤ length (now room) ⌝ }
+{
+    let end = put_ending(room, file, cut, place, at, field);
+    print(b"inspect", &room[..end]);
+}
+
+// Puts it at the start of a buffer: the number where the walk stopped, if it has a fault, what reading
+// refuses, and the stop.
+fn put_ending(
+    buffer: &mut [u8],
+    file: &[u8],
+    cut: bool,
+    place: u64,
+    at: usize,
+    field: Field,
+) -> usize
+    ensures { λ r. ⌜ Put (pageEnd (now (file .entry)) cut place at field) 0 (now (buffer .entry)) r (now (buffer .exit)) ⌝ }
+{
     let found = step_at(file, at).found;
-    match stop_of(found, cut, at == file.len()) {
-        Stop::Fault => {
-            print_faulty(place, at, field)
-                && print_refusal(file)
-                && print_lettered(b"F", found.refusal() as u64, place)
-        }
-        Stop::End => print_refusal(file) && print_lettered(b"E", place, at as u64),
-        Stop::Cut => print_refusal(file) && print_lettered(b"C", place, at as u64),
-    }
+    let answer = read(file).answer;
+    let stop = stop_of(found, cut, at == file.len());
+    let end = put_stopped_at(buffer, stop, place, at, field);
+    let end = put_verdict(buffer, end, answer);
+    put_stop(buffer, end, stop, found.refusal() as u64, place, at)
 }
 
 // Bytes that end are cut where the file goes on behind them. Else they end inside a number, or the file
 // does.
-fn stop_of(found: Number, cut: bool, all_walked: bool) -> Stop {
-    let Number::Ends = found else {
-        return Stop::Fault;
-    };
-    if cut {
-        return Stop::Cut;
+fn stop_of(found: Number, cut: bool, all_walked: bool) -> Stop
+    ensures { λ r. ⌜ r ≡ stopOf (finds found) cut «all_walked» ⌝ }
+{
+    match found {
+        Number::Value { value: _, next: _ } => Stop::Fault,
+        Number::NotShortest => Stop::Fault,
+        Number::TooLarge => Stop::Fault,
+        Number::Ends => {
+            if cut {
+                return Stop::Cut;
+            }
+            if all_walked { Stop::End } else { Stop::Fault }
+        }
     }
-    if all_walked { Stop::End } else { Stop::Fault }
 }
 
-// The line of a number that has a fault.
-fn print_faulty(place: u64, at: usize, field: Field) -> bool {
-    io::print_decimal(STDOUT_FILENO, place)
-        && print_number(at as u64)
-        && print_words(b" -")
-        && print_field(field)
+// Puts the line of the number where the walk stopped; nothing where there is none.
+fn put_stopped_at(buffer: &mut [u8], stop: Stop, place: u64, at: usize, field: Field) -> usize
+    ensures { λ r. ⌜ Put (stoppedAt stop place at field) 0 (now (buffer .entry)) r (now (buffer .exit)) ⌝ }
+{
+    match stop {
+        Stop::Fault => put_faulty(buffer, place, at, field),
+        Stop::End => put_words(buffer, 0, b""),
+        Stop::Cut => put_words(buffer, 0, b""),
+    }
 }
 
-// The line of a refused file, as `rows` prints it. This is what reading refuses; the accounts are not
-// looked at.
-fn print_refusal(file: &[u8]) -> bool {
-    let answer = records::read(file).answer;
+// Puts the line of a number that has a fault, and so no value.
+fn put_faulty(buffer: &mut [u8], place: u64, at: usize, field: Field) -> usize
+    ensures { λ r. ⌜ Put (faultyLine place at field) 0 (now (buffer .entry)) r (now (buffer .exit)) ⌝ }
+{
+    let end = put_number(buffer, 0, place);
+    let end = put_spaced(buffer, end, at as u64);
+    let end = put_words(buffer, end, b" -");
+    put_field(buffer, end, field)
+}
+
+// Puts the line of a refused file, as `rows` prints it; nothing where it is accepted.
+fn put_verdict(buffer: &mut [u8], at: usize, answer: Answer) -> usize
+    ensures { λ r. ⌜ Put (verdictText (said answer)) at (now (buffer .entry)) r (now (buffer .exit)) ⌝ }
+{
     if let Answer::Refused(refusal) = answer {
-        let reason = refusal.reason;
-        return print_lettered(b"R", reason.number() as u64, refusal.place);
+        return put_refusal(buffer, at, refusal);
     }
-    true
+    put_words(buffer, at, b"")
 }
 
-// A letter and two numbers.
-fn print_lettered(letter: &[u8], first: u64, second: u64) -> bool {
-    print_words(letter) && print_number(first) && print_number(second) && print_words(b"\n")
+// Puts the last line: a letter for the stop, with the fault's number and its place, or with the count
+// of numbers and of bytes before it.
+fn put_stop(buffer: &mut [u8], end: usize, stop: Stop, fault: u64, place: u64, at: usize) -> usize
+    ensures { λ r. ⌜ Put (stopLine stop fault place at) end (now (buffer .entry)) r (now (buffer .exit)) ⌝ }
+{
+    match stop {
+        Stop::Fault => put_line(buffer, end, b"F", &[fault, place]),
+        Stop::End => put_line(buffer, end, b"E", &[place, at as u64]),
+        Stop::Cut => put_line(buffer, end, b"C", &[place, at as u64]),
+    }
 }

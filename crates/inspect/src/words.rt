@@ -1,58 +1,76 @@
-// The words for a field, as 01 names it, on standard output, up to the end of the line. Each function
-// answers whether all that it prints could be written.
-use crate::text::print_number;
-use crate::text::print_words;
+// The words for a field, as 01 names it, up to the end of the line.
+ghost use mathlib.Core.List.{_++_};
+ghost use Rattle.output.specs.Lines.{spaced};
+ghost use Rattle.output.specs.Put.{Put};
+ghost use Rattle.inspect.specs.FieldWords.{headerWords, plantText, segmentText, lineText, fieldText};
 use inspector::Field;
+use output::put_spaced;
+use output::put_words;
 
 // Which field of which record.
-pub(crate) fn print_field(field: Field) -> bool {
+pub(crate) fn put_field(buffer: &mut [u8], at: usize, field: Field) -> usize
+    ensures { λ r. ⌜ Put (fieldText field) at (now (buffer .entry)) r (now (buffer .exit)) ⌝ }
+{
     match field {
-        Field::Header { field } => print_header_field(field),
-        Field::Plant { number, field } => {
-            print_words(b" plant") && print_number(number) && print_plant_field(field)
-        }
-        Field::Segment { number, field } => {
-            print_words(b" segment") && print_number(number) && print_segment_field(field)
-        }
-        Field::Line { number, field } => {
-            print_words(b" line") && print_number(number) && print_line_field(field)
-        }
-        Field::After => print_words(b" after the last number\n"),
-        Field::Untold => print_words(b" not told by the header\n"),
+        Field::Header { field } => put_header_field(buffer, at, field),
+        Field::Plant { number, field } => put_plant_field(buffer, at, number, field),
+        Field::Segment { number, field } => put_segment_field(buffer, at, number, field),
+        Field::Line { number, field } => put_line_field(buffer, at, number, field),
+        Field::After => put_words(buffer, at, b" after the last number\n"),
+        Field::Untold => put_words(buffer, at, b" not told by the header\n"),
     }
 }
 
-fn print_header_field(field: u64) -> bool {
+fn put_header_field(buffer: &mut [u8], at: usize, field: u64) -> usize
+    ensures { λ r. ⌜ Put (headerWords field) at (now (buffer .entry)) r (now (buffer .exit)) ⌝ }
+{
     match field {
-        0 => print_words(b" edition\n"),
-        1 => print_words(b" plants\n"),
-        2 => print_words(b" segments\n"),
-        _ => print_words(b" lines\n"),
+        0 => put_words(buffer, at, b" edition\n"),
+        1 => put_words(buffer, at, b" plants\n"),
+        2 => put_words(buffer, at, b" segments\n"),
+        _ => put_words(buffer, at, b" lines\n"),
     }
 }
 
-fn print_plant_field(field: u64) -> bool {
+fn put_plant_field(buffer: &mut [u8], at: usize, number: u64, field: u64) -> usize
+    ensures { λ r. ⌜ Put (plantText number field) at (now (buffer .entry)) r (now (buffer .exit)) ⌝ }
+{
+    let at = put_record(buffer, at, b" plant", number);
     match field {
-        0 => print_words(b" exported\n"),
-        1 => print_words(b" first segment\n"),
-        _ => print_words(b" origin fraction\n"),
+        0 => put_words(buffer, at, b" exported\n"),
+        1 => put_words(buffer, at, b" first segment\n"),
+        _ => put_words(buffer, at, b" origin fraction\n"),
     }
 }
 
-fn print_segment_field(field: u64) -> bool {
+fn put_segment_field(buffer: &mut [u8], at: usize, number: u64, field: u64) -> usize
+    ensures { λ r. ⌜ Put (segmentText number field) at (now (buffer .entry)) r (now (buffer .exit)) ⌝ }
+{
+    let at = put_record(buffer, at, b" segment", number);
     match field {
-        0 => print_words(b" kind\n"),
-        1 => print_words(b" metered outflow\n"),
-        _ => print_words(b" next segment\n"),
+        0 => put_words(buffer, at, b" kind\n"),
+        1 => put_words(buffer, at, b" metered outflow\n"),
+        _ => put_words(buffer, at, b" next segment\n"),
     }
 }
 
-fn print_line_field(field: u64) -> bool {
+fn put_line_field(buffer: &mut [u8], at: usize, number: u64, field: u64) -> usize
+    ensures { λ r. ⌜ Put (lineText number field) at (now (buffer .entry)) r (now (buffer .exit)) ⌝ }
+{
+    let at = put_record(buffer, at, b" line", number);
     match field {
-        0 => print_words(b" owner kind\n"),
-        1 => print_words(b" owner number\n"),
-        2 => print_words(b" class\n"),
-        3 => print_words(b" quantity\n"),
-        _ => print_words(b" factor\n"),
+        0 => put_words(buffer, at, b" owner kind\n"),
+        1 => put_words(buffer, at, b" owner number\n"),
+        2 => put_words(buffer, at, b" class\n"),
+        3 => put_words(buffer, at, b" quantity\n"),
+        _ => put_words(buffer, at, b" factor\n"),
     }
+}
+
+// Puts a record's name and its number.
+fn put_record(buffer: &mut [u8], at: usize, name: &[u8], number: u64) -> usize
+    ensures { λ r. ⌜ Put (now (name .entry) ++ spaced number) at (now (buffer .entry)) r (now (buffer .exit)) ⌝ }
+{
+    let at = put_words(buffer, at, name);
+    put_spaced(buffer, at, number)
 }

@@ -1,2 +1,10 @@
--- The numbers that the call wrote lie within its tables.
-mod NumbersThere
+-- What the program prints.
+
+-- the text of the answer, by what the call left in its tables
+mod AnswerText
+-- there is room for it
+pub mod TextRoom
+-- for files of any length
+pub mod AnyFile
+-- 01's whole period, from bytes to text
+pub mod Examples

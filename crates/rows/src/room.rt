@@ -1,17 +1,29 @@
-// Room for a period file, as far as its bytes can change the answer.
-ghost use Prim.Native.Nat.{_+_};
+// Room for a period file, as far as its bytes can change the answer, and then for the answer's text.
+ghost use Prim.Native.Nat.{_<_};
 ghost use mathlib.Core.Path.{_≡_};
 ghost use lib.ListN.{length};
 ghost use Rattle.records.specs.Periods.{mostBytes};
-use records::Limits;
+ghost use Rattle.rows.specs.Printed.{mostText};
+use output::MOST_SPACED;
+use period::PLANT_NUMBERS;
+use period::SEGMENT_NUMBERS;
+use records::Plant;
+use records::Segment;
 
-// One byte more than the longest file has: it shows that a file goes on, and no byte after it can
-// change the answer (`longer`, proofs/Longer.antt of `accounts`).
-const ROOM: usize = Limits::BYTES + 1;
+// A row's letter and the end of its line, and its numbers behind that of its record.
+const PLANT_ROW: usize = 2 + MOST_SPACED * (1 + PLANT_NUMBERS);
 
-// Zeros, with room for what is read.
+const SEGMENT_ROW: usize = 2 + MOST_SPACED * (1 + SEGMENT_NUMBERS);
+
+// The rows of as many plants and segments as a period can have; a refusal's line is shorter. This is
+// more than the longest file has: so a file that goes on is seen to, and no byte that is not read can
+// change the answer (`any-file`, proofs/AnyFile.antt).
+const ROOM: usize = Plant::MOST * PLANT_ROW + Segment::MOST * SEGMENT_ROW;
+
+// Zeros, with room for what is read and for what is printed.
 pub(crate) fn room() -> [u8; ROOM]
-    ensures { λ r. ⌜ mostBytes + 1 ≡ length r ⌝ }
+    ensures { λ r. ⌜ mostBytes < length r ⌝ }
+    ensures { λ r. ⌜ mostText ≡ length r ⌝ }
 {
     [0; ROOM]
 }

@@ -1,13 +1,10 @@
-//! The question about one number, put as the asked offset (8 bytes, least
-//! significant first) and the file.
+//! The question about one number, put as a case about one byte of a file.
 
 use super::number::{read_number, Reading};
 use crate::answer_line::AnswerLine;
-use crate::frames::{first_file, split, write_file};
+use crate::asked_file::{AskedFile, Kind};
+use crate::frames::FrameFault;
 use crate::questions::{hex, Question};
-
-/// Bytes of the asked offset.
-const OFFSET_BYTES: usize = 8;
 
 /// One question: what stands at this offset of this file?
 #[derive(Clone, Debug, PartialEq, Eq)]
@@ -22,16 +19,17 @@ impl Question for NumberAt {
     const LABELS: &'static [&'static str] = &["N", "R1", "R2", "R3"];
 
     fn write_frame(&self, frames: &mut Vec<u8>) {
-        frames.extend(self.offset.to_le_bytes());
-        write_file(&self.file, frames);
+        let asked = AskedFile {
+            offset: self.offset,
+            file: &self.file,
+        };
+        asked.write_frame(Kind::Number, frames);
     }
 
-    fn first_frame(input: &[u8]) -> Option<(Self, &[u8])> {
-        let (offset, rest) = split(input, OFFSET_BYTES)?;
-        let offset = u64::from_le_bytes(offset.try_into().ok()?);
-        let (file, rest) = first_file(rest)?;
+    fn first_frame(input: &[u8]) -> Result<(Self, &[u8]), FrameFault> {
+        let (AskedFile { offset, file }, rest) = AskedFile::first_frame(Kind::Number, input)?;
         let file = file.to_vec();
-        Some((NumberAt { file, offset }, rest))
+        Ok((NumberAt { file, offset }, rest))
     }
 
     fn answer(&self) -> AnswerLine {

@@ -1,8 +1,9 @@
-//! The question how a period file is read, put as the file alone.
+//! The question how a period file is read, put as a case about the whole file.
 
 use super::reading::read_period;
 use crate::answer_line::AnswerLine;
-use crate::frames::{first_file, write_file};
+use crate::asked_file::{AskedFile, Kind, NO_OFFSET};
+use crate::frames::FrameFault;
 use crate::questions::{hex, spaced, Question};
 
 /// One question: what are the records of this file, or why is it refused?
@@ -16,12 +17,16 @@ impl Question for PeriodFile {
         &["A", "R1", "R2", "R3", "R4", "R5", "R6", "R7", "R8", "R9"];
 
     fn write_frame(&self, frames: &mut Vec<u8>) {
-        write_file(&self.0, frames);
+        let asked = AskedFile {
+            offset: NO_OFFSET,
+            file: &self.0,
+        };
+        asked.write_frame(Kind::Period, frames);
     }
 
-    fn first_frame(input: &[u8]) -> Option<(Self, &[u8])> {
-        let (file, rest) = first_file(input)?;
-        Some((PeriodFile(file.to_vec()), rest))
+    fn first_frame(input: &[u8]) -> Result<(Self, &[u8]), FrameFault> {
+        let (asked, rest) = AskedFile::first_frame(Kind::Period, input)?;
+        Ok((PeriodFile(asked.file.to_vec()), rest))
     }
 
     fn answer(&self) -> AnswerLine {
@@ -49,6 +54,13 @@ mod tests {
              0 1 4 2000 350 1 1 3 101 2650\n"
         );
         assert_eq!(PeriodFile(vec![0x01]).answer().0, "R 1 1\n");
+    }
+
+    #[test]
+    fn asked_byte_is_not_looked_at() {
+        let frame = [b'P', 8, 7, 6, 5, 4, 3, 2, 1, 1, 0, 0, 0, 0x80];
+        let read = PeriodFile::first_frame(&frame);
+        assert_eq!(read, Ok((PeriodFile(vec![0x80]), &[][..])));
     }
 
     #[test]

@@ -9,10 +9,10 @@ use Rattle.input.proofs.read_input.Statement.{statement}
 use Rattle.input.proofs.read_input.Tie as tie
 
 abbrev Inv-loop : tie.InvT-loop
-Inv-loop room₀ bytes₀ room bytes = (length room ≡ length room₀) × (bytes ≤ length room)
+Inv-loop program room₀ bytes₀ room bytes = (length room ≡ length room₀) × (bytes ≤ length room)
 
 abbrev μ-loop : tie.MeasureT-loop
-μ-loop room₀ bytes₀ room bytes = length room - bytes
+μ-loop program room₀ bytes₀ room bytes = length room - bytes
 
 loop-holds : tie.Need-loop-holds Inv-loop μ-loop
 loop-holds c = omega arith
@@ -28,6 +28,9 @@ part-read-end c = omega arith
 
 read-requires : tie.Need-read-requires Inv-loop μ-loop
 read-requires c κs = search needs
+
+say-unread-requires : tie.Need-say-unread-requires Inv-loop μ-loop
+say-unread-requires c κs = search needs
 
 same-length : tie.Need-same-length Inv-loop μ-loop
 same-length c = search needs
@@ -79,6 +82,7 @@ read-input-spec =
     part-read-start
     part-read-end
     read-requires
+    say-unread-requires
     same-length
     returns
     sub-count

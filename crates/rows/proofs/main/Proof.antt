@@ -1,11 +1,15 @@
--- `rows::main` is safe and ends: the bytes that were read stand at the start of the room. Assumes nothing.
+-- `rows::main` is safe and ends: the bytes that were read stand at the start of the room, and so does the text of the answer. Assumes nothing.
+use mathlib.Core.Path.{sym}
+use native.Mathlib.Omega.{arith}
+use lib.Seq.{length-take-le}
 use borrow.Author.Needs.{needs}
-use Rattle.io.specs.Counts.{Counts}
+use Rattle.input.specs.declared.Input.the-variants.{File}
+use Rattle.input.specs.Received.{Received}
 use Rattle.rows.proofs.main.Statement.{statement}
 use Rattle.rows.proofs.main.Tie as tie
 
 -- ---- what is known when a file was read
-stands : (c : tie.After-input) → Counts (c .input .given .0 .0) (c .before .before .before .read-input .last .0)
+stands : (c : tie.After-input) → Received (File (c .input .given .0 .0)) (c .before .before .before .read-input .last .1 .0)
 stands c = rw (c .input .given .1) at (c .before .before .before .read-input .ensures)
 
 -- ---- the needs
@@ -14,6 +18,9 @@ room-requires c κs = search needs
 
 slice-aggregate-read-input : tie.Need-slice-aggregate-read-input
 slice-aggregate-read-input c = search needs
+
+slice-aggregate-read-input-2 : tie.Need-slice-aggregate-read-input-2
+slice-aggregate-read-input-2 c = search needs
 
 read-input-requires : tie.Need-read-input-requires
 read-input-requires c κs = search needs
@@ -24,29 +31,29 @@ enum-known-input c = search needs
 enum-told : tie.Need-enum-told
 enum-told c = search needs
 
-say-unread-requires : tie.Need-say-unread-requires
-say-unread-requires c κs = search needs
-
 returns : tie.Need-returns
 returns c = search needs
 
+slice-aggregate-answer : tie.Need-slice-aggregate-answer
+slice-aggregate-answer c = search needs
+
+answer-requires : tie.Need-answer-requires
+answer-requires c κs = (stands (c .before .before) .0, omega arith)
+
+slice-aggregate-print : tie.Need-slice-aggregate-print
+slice-aggregate-print c = search needs
+
 array-share-prefix-room : tie.Need-array-share-prefix-room
-array-share-prefix-room c = stands (c .before) .0
+array-share-prefix-room c = search needs
 
-slice-aggregate-print-answer : tie.Need-slice-aggregate-print-answer
-slice-aggregate-print-answer c = stands (c .before .before) .1
+slice-aggregate-print-2 : tie.Need-slice-aggregate-print-2
+slice-aggregate-print-2 c = sym (length-take-le _ _ (c .before .before .before .answer .ensures .within))
 
-print-answer-requires : tie.Need-print-answer-requires
-print-answer-requires c κs = search needs
-
-say-unwritten-requires : tie.Need-say-unwritten-requires
-say-unwritten-requires c κs = search needs
+print-requires : tie.Need-print-requires
+print-requires c κs = search needs
 
 returns-2 : tie.Need-returns-2
 returns-2 c = search needs
-
-returns-3 : tie.Need-returns-3
-returns-3 c = search needs
 
 pub main-spec : {M : Type 1} → statement M
 main-spec =
@@ -54,14 +61,15 @@ main-spec =
     (tie.spec
     room-requires
     slice-aggregate-read-input
+    slice-aggregate-read-input-2
     read-input-requires
     enum-known-input
     enum-told
-    say-unread-requires
     returns
+    slice-aggregate-answer
+    answer-requires
+    slice-aggregate-print
     array-share-prefix-room
-    slice-aggregate-print-answer
-    print-answer-requires
-    say-unwritten-requires
-    returns-2
-    returns-3)
+    slice-aggregate-print-2
+    print-requires
+    returns-2)

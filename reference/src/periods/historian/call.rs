@@ -2,7 +2,7 @@
 
 use super::returned::Returned;
 use super::table_bytes::TableBytes;
-use crate::frames::{first_length, split, write_length};
+use crate::frames::{first_bytes, first_length, write_length, FrameFault};
 use crate::periods::case::PeriodCase;
 use crate::questions::{hex, Question};
 
@@ -38,16 +38,16 @@ impl Question for HistorianCall {
         frames.extend(&self.file);
     }
 
-    fn first_frame(input: &[u8]) -> Option<(Self, &[u8])> {
+    fn first_frame(input: &[u8]) -> Result<(Self, &[u8]), FrameFault> {
         let (file, rest) = first_length(input)?;
         let (plant, rest) = first_length(rest)?;
         let (segment, rest) = first_length(rest)?;
-        let (file, rest) = split(rest, file)?;
+        let (file, rest) = first_bytes(rest, file)?;
         let call = HistorianCall {
             file: file.to_vec(),
             tables: TableBytes { plant, segment },
         };
-        Some((call, rest))
+        Ok((call, rest))
     }
 
     fn answer(&self) -> Returned {

@@ -1,7 +1,7 @@
 //! The historian's call for a sheet, put as the file alone.
 
 use super::left::Left;
-use crate::frames::{first_file, write_file};
+use crate::frames::{first_file, write_file, FrameFault};
 use crate::questions::{FileToPrint, Question};
 use crate::sheets::printed::file::{in_words, PrintedSheet};
 
@@ -18,9 +18,9 @@ impl Question for DaysCall {
         write_file(&self.0, frames);
     }
 
-    fn first_frame(input: &[u8]) -> Option<(Self, &[u8])> {
+    fn first_frame(input: &[u8]) -> Result<(Self, &[u8]), FrameFault> {
         let (file, rest) = first_file(input)?;
-        Some((DaysCall(file.to_vec()), rest))
+        Ok((DaysCall(file.to_vec()), rest))
     }
 
     fn answer(&self) -> Left {

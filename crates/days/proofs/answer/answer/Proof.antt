@@ -1,0 +1,65 @@
+-- `days::answer::answer` meets its contract: the figures that the call counted, or the line of its refusal, and there is room for them. Assumes
+-- nothing.
+use mathlib.Core.Path.{sym, ap, _∙_}
+use native.Mathlib.Omega.{arith}
+use lib.Seq.{length-take-le}
+use borrow.Author.Needs.{needs}
+use Rattle.meter.specs.Days.{daysTold}
+use Rattle.days.proofs.TextRoom.{answered}
+use Rattle.days.proofs.answer.answer.Statement.{statement}
+use Rattle.days.proofs.answer.answer.Tie as tie
+
+slice-reshare-prefix-days : tie.Need-slice-reshare-prefix-days
+slice-reshare-prefix-days c = search needs
+
+slice-aggregate-days : tie.Need-slice-aggregate-days
+slice-aggregate-days c = sym (length-take-le _ _ (omega arith))
+
+days-requires : tie.Need-days-requires
+days-requires c κs = search needs
+
+enum-known-figures : tie.Need-enum-known-figures
+enum-known-figures c = search needs
+
+put-figures-requires : tie.Need-put-figures-requires
+put-figures-requires c κs = search needs
+
+enum-known-refusal : tie.Need-enum-known-refusal
+enum-known-refusal c = search needs
+
+put-refusal-requires : tie.Need-put-refusal-requires
+put-refusal-requires c κs = search needs
+
+same-length : tie.Need-same-length
+same-length c = search needs
+
+returns : tie.Need-returns
+returns c =
+    let told = sym (c .before .before .before .before .before .before .before .days .ensures) ∙ ap daysTold (c .before .before .before .before .before .figures .given .1) in
+    let a = c .before .before .before .before .before .before .before .before .before .before in
+    answered (a .args .room .now) (a .args .bytes) (rw told (c .before .before .put-figures .ensures)) (a .pre .1)
+
+same-length-2 : tie.Need-same-length-2
+same-length-2 c = search needs
+
+returns-2 : tie.Need-returns-2
+returns-2 c =
+    let told = sym (c .before .before .before .before .before .before .before .days .ensures) ∙ ap daysTold (c .before .before .before .before .before .refusal .given .1) in
+    let a = c .before .before .before .before .before .before .before .before .before .before in
+    answered (a .args .room .now) (a .args .bytes) (rw told (c .before .before .put-refusal .ensures)) (a .pre .1)
+
+pub answer-spec : {M : Type 1} → statement M
+answer-spec =
+    tie.close
+    (tie.spec
+    slice-reshare-prefix-days
+    slice-aggregate-days
+    days-requires
+    enum-known-figures
+    put-figures-requires
+    enum-known-refusal
+    put-refusal-requires
+    same-length
+    returns
+    same-length-2
+    returns-2)

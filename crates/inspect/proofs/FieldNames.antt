@@ -1,0 +1,71 @@
+-- The words for the last field of a record, which stand for all fields from it on; and how long a field's words are at most.
+use Prim.Native.Nat.{ℕ, zero, suc, _+_, _≤_, _<_}
+use mathlib.Core.Path.{_≡_, refl}
+use native.Mathlib.Omega.{arith}
+use lib.ListN.{length, length-append}
+use Rattle.inspector.specs.declared.field.Field.{Field}
+use Rattle.inspector.specs.declared.field.Field.the-variants.{Header, Plant, Segment, Line, After, Untold}
+use Rattle.output.specs.Words.{ascii}
+use Rattle.output.proofs.Room.{spaced-long}
+use Rattle.inspect.specs.FieldWords.{headerWords, plantWords, segmentWords, lineWords, fieldText, mostFieldText}
+
+-- ---- the last field
+pub header-last : (field : ℕ) → 2 < field → headerWords field ≡ ascii " lines\n"
+header-last zero more = absurd (omega arith)
+header-last (suc zero) more = absurd (omega arith)
+header-last (suc (suc zero)) more = absurd (omega arith)
+header-last (suc (suc (suc field))) more = refl
+
+pub plant-last : (field : ℕ) → 1 < field → plantWords field ≡ ascii " origin fraction\n"
+plant-last zero more = absurd (omega arith)
+plant-last (suc zero) more = absurd (omega arith)
+plant-last (suc (suc field)) more = refl
+
+pub segment-last : (field : ℕ) → 1 < field → segmentWords field ≡ ascii " next segment\n"
+segment-last zero more = absurd (omega arith)
+segment-last (suc zero) more = absurd (omega arith)
+segment-last (suc (suc field)) more = refl
+
+pub line-last : (field : ℕ) → 3 < field → lineWords field ≡ ascii " factor\n"
+line-last zero more = absurd (omega arith)
+line-last (suc zero) more = absurd (omega arith)
+line-last (suc (suc zero)) more = absurd (omega arith)
+line-last (suc (suc (suc zero))) more = absurd (omega arith)
+line-last (suc (suc (suc (suc field)))) more = refl
+
+-- ---- how long
+-- the words of a header's field, and what stands behind a record's number
+header-long : (field : ℕ) → length (headerWords field) ≤ mostFieldText
+header-long zero = omega arith
+header-long (suc zero) = omega arith
+header-long (suc (suc zero)) = omega arith
+header-long (suc (suc (suc field))) = omega arith
+
+-- no name is longer
+abbrev mostName : ℕ
+mostName = 17
+
+plant-long : (field : ℕ) → length (plantWords field) ≤ mostName
+plant-long zero = omega arith
+plant-long (suc zero) = omega arith
+plant-long (suc (suc field)) = omega arith
+
+segment-long : (field : ℕ) → length (segmentWords field) ≤ mostName
+segment-long zero = omega arith
+segment-long (suc zero) = omega arith
+segment-long (suc (suc field)) = omega arith
+
+line-long : (field : ℕ) → length (lineWords field) ≤ mostName
+line-long zero = omega arith
+line-long (suc zero) = omega arith
+line-long (suc (suc zero)) = omega arith
+line-long (suc (suc (suc zero))) = omega arith
+line-long (suc (suc (suc (suc field)))) = omega arith
+
+pub field-long : (field : Field) → length (fieldText field) ≤ mostFieldText
+field-long (Header field) = header-long field
+field-long (Plant number field) = simp length-append (omega (arith, spaced-long number, plant-long field))
+field-long (Segment number field) = simp length-append (omega (arith, spaced-long number, segment-long field))
+field-long (Line number field) = simp length-append (omega (arith, spaced-long number, line-long field))
+field-long After = omega arith
+field-long Untold = omega arith

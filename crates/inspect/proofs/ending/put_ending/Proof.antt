@@ -1,0 +1,71 @@
+-- `inspect::ending::put_ending` meets its contract: where the walk stopped, what reading refuses, and the stop. Assumes nothing.
+use mathlib.Core.Path.{ap}
+use denote.Ref.{now}
+use borrow.Author.Needs.{needs}
+use Rattle.inspector.specs.Reader.{Stepped}
+use Rattle.output.proofs.Putting.{put-then}
+use Rattle.inspect.proofs.PageEnd.{page-end}
+use Rattle.inspect.proofs.ending.put_ending.Statement.{statement}
+use Rattle.inspect.proofs.ending.put_ending.Tie as tie
+
+step-at-requires : tie.Need-step-at-requires
+step-at-requires c κs = search needs
+
+read-requires : tie.Need-read-requires
+read-requires c κs = search needs
+
+stop-of-requires : tie.Need-stop-of-requires
+stop-of-requires c κs = search needs
+
+put-stopped-at-requires : tie.Need-put-stopped-at-requires
+put-stopped-at-requires c κs = search needs
+
+put-verdict-requires : tie.Need-put-verdict-requires
+put-verdict-requires c κs = search needs
+
+refusal-requires : tie.Need-refusal-requires
+refusal-requires c κs = search needs
+
+cast-put-stop : tie.Need-cast-put-stop
+cast-put-stop c = search needs
+
+put-stop-requires : tie.Need-put-stop-requires
+put-stop-requires c κs = search needs
+
+same-length : tie.Need-same-length
+same-length c = search needs
+
+returns : tie.Need-returns
+returns c =
+    let a = c .before .before .before .before .before .before .before .before .before .before .before .before .before .before .before .before .before .before .args in
+    let step = c .before .before .before .before .before .before .before .before .before .before .before .before .before .before .before .step-at in
+    let reading = c .before .before .before .before .before .before .before .before .before .before .before .before .before .before .read in
+    let text =
+    page-end
+    (now (a .file))
+    (a .cut)
+    (a .place)
+    (a .at)
+    (a .field)
+    (step .result .found)
+    (reading .result .answer)
+    (ap (λ (s : Stepped). s .found) (step .ensures))
+    (reading .ensures .answer)
+    (c .before .before .before .before .before .before .before .before .before .before .before .before .before .stop-of .ensures)
+    (c .before .before .before .refusal .ensures) in
+    rw text (put-then (put-then (c .before .before .before .before .before .before .before .before .before .before .before .put-stopped-at .ensures) (c .before .before .before .before .before .before .before .put-verdict .ensures)) (c .before .before .put-stop .ensures))
+
+pub put-ending-spec : {M : Type 1} → statement M
+put-ending-spec =
+    tie.close
+    (tie.spec
+    step-at-requires
+    read-requires
+    stop-of-requires
+    put-stopped-at-requires
+    put-verdict-requires
+    refusal-requires
+    cast-put-stop
+    put-stop-requires
+    same-length
+    returns)

@@ -1,0 +1,38 @@
+-- `inspect::ending::put_faulty` meets its contract, piece by piece. Assumes nothing.
+use borrow.Author.Needs.{needs}
+use Rattle.output.proofs.Putting.{put-then}
+use Rattle.inspect.proofs.ending.put_faulty.Statement.{statement}
+use Rattle.inspect.proofs.ending.put_faulty.Tie as tie
+
+put-number-requires : tie.Need-put-number-requires
+put-number-requires c κs = search needs
+
+put-spaced-requires : tie.Need-put-spaced-requires
+put-spaced-requires c κs = search needs
+
+slice-aggregate-put-words : tie.Need-slice-aggregate-put-words
+slice-aggregate-put-words c = search needs
+
+put-words-requires : tie.Need-put-words-requires
+put-words-requires c κs = search needs
+
+put-field-requires : tie.Need-put-field-requires
+put-field-requires c κs = search needs
+
+same-length : tie.Need-same-length
+same-length c = search needs
+
+returns : tie.Need-returns
+returns c = put-then (put-then (put-then (c .before .before .before .before .before .before .before .before .before .before .before .before .before .before .before .put-number .ensures) (c .before .before .before .before .before .before .before .before .before .before .before .put-spaced .ensures)) (c .before .before .before .before .before .before .put-words .ensures)) (c .before .before .put-field .ensures)
+
+pub put-faulty-spec : {M : Type 1} → statement M
+put-faulty-spec =
+    tie.close
+    (tie.spec
+    put-number-requires
+    put-spaced-requires
+    slice-aggregate-put-words
+    put-words-requires
+    put-field-requires
+    same-length
+    returns)

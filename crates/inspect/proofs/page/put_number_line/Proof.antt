@@ -1,0 +1,34 @@
+-- `inspect::page::put_number_line` meets its contract, piece by piece. Assumes nothing.
+use borrow.Author.Needs.{needs}
+use Rattle.output.proofs.Putting.{put-then}
+use Rattle.inspect.proofs.page.put_number_line.Statement.{statement}
+use Rattle.inspect.proofs.page.put_number_line.Tie as tie
+
+put-number-requires : tie.Need-put-number-requires
+put-number-requires c κs = search needs
+
+put-spaced-requires : tie.Need-put-spaced-requires
+put-spaced-requires c κs = search needs
+
+put-spaced-requires-2 : tie.Need-put-spaced-requires-2
+put-spaced-requires-2 c κs = search needs
+
+put-field-requires : tie.Need-put-field-requires
+put-field-requires c κs = search needs
+
+same-length : tie.Need-same-length
+same-length c = search needs
+
+returns : tie.Need-returns
+returns c = put-then (put-then (put-then (c .before .before .before .before .before .before .before .before .before .before .before .before .before .before .put-number .ensures) (c .before .before .before .before .before .before .before .before .before .before .put-spaced .ensures)) (c .before .before .before .before .before .before .put-spaced2 .ensures)) (c .before .before .put-field .ensures)
+
+pub put-number-line-spec : {M : Type 1} → statement M
+put-number-line-spec =
+    tie.close
+    (tie.spec
+    put-number-requires
+    put-spaced-requires
+    put-spaced-requires-2
+    put-field-requires
+    same-length
+    returns)

@@ -1,0 +1,54 @@
+-- The words for a field, as 01 names it, up to the end of the line.
+use Prim.Native.Nat.{ℕ, zero, suc, _+_}
+use mathlib.Core.List.{List, _++_}
+use Rattle.inspector.specs.declared.field.Field.{Field}
+use Rattle.inspector.specs.declared.field.Field.the-variants.{Header, Plant, Segment, Line, After, Untold}
+use Rattle.output.specs.Words.{ascii}
+use Rattle.output.specs.Lines.{mostSpaced, spaced}
+
+-- ---- the fields of a record, from 0 on; the last name is for all that are left
+abbrev pub headerWords : ℕ → List ℕ
+headerWords zero = ascii " edition\n"
+headerWords (suc zero) = ascii " plants\n"
+headerWords (suc (suc zero)) = ascii " segments\n"
+headerWords (suc (suc (suc more))) = ascii " lines\n"
+
+abbrev pub plantWords : ℕ → List ℕ
+plantWords zero = ascii " exported\n"
+plantWords (suc zero) = ascii " first segment\n"
+plantWords (suc (suc more)) = ascii " origin fraction\n"
+
+abbrev pub segmentWords : ℕ → List ℕ
+segmentWords zero = ascii " kind\n"
+segmentWords (suc zero) = ascii " metered outflow\n"
+segmentWords (suc (suc more)) = ascii " next segment\n"
+
+abbrev pub lineWords : ℕ → List ℕ
+lineWords zero = ascii " owner kind\n"
+lineWords (suc zero) = ascii " owner number\n"
+lineWords (suc (suc zero)) = ascii " class\n"
+lineWords (suc (suc (suc zero))) = ascii " quantity\n"
+lineWords (suc (suc (suc (suc more)))) = ascii " factor\n"
+
+-- ---- behind the record's name and number
+abbrev pub plantText : (number field : ℕ) → List ℕ
+plantText number field = ascii " plant" ++ spaced number ++ plantWords field
+
+abbrev pub segmentText : (number field : ℕ) → List ℕ
+segmentText number field = ascii " segment" ++ spaced number ++ segmentWords field
+
+abbrev pub lineText : (number field : ℕ) → List ℕ
+lineText number field = ascii " line" ++ spaced number ++ lineWords field
+
+-- Which field of which record.
+abbrev pub fieldText : Field → List ℕ
+fieldText (Header field) = headerWords field
+fieldText (Plant number field) = plantText number field
+fieldText (Segment number field) = segmentText number field
+fieldText (Line number field) = lineText number field
+fieldText After = ascii " after the last number\n"
+fieldText Untold = ascii " not told by the header\n"
+
+-- No words of a field are longer, with its record's number among them.
+abbrev pub mostFieldText : ℕ
+mostFieldText = mostSpaced + 25

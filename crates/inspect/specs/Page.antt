@@ -1,0 +1,63 @@
+-- The lines of the inspector's page.
+use Prim.Native.Nat.{ℕ, _+_, _*_}
+use mathlib.Core.Bool.{Bool, cond}
+use mathlib.Core.List.{List, [], _∷_, _++_}
+use lib.Dec.{eqb}
+use lib.ListN.{length}
+use Rattle.number.specs.Reading.{Found, ends, readAt}
+use Rattle.number.specs.Reading.Found.{number as value-found, fault as fault-found}
+use Rattle.number.specs.Finding.{refusalOf}
+use Rattle.fields.specs.Answers.{Verdict, accepts, refuses}
+use Rattle.fields.specs.Files.{readVerdict}
+use Rattle.records.specs.Periods.{periodFile}
+use Rattle.inspector.specs.declared.field.Field.{Field}
+use Rattle.output.specs.Words.{ascii}
+use Rattle.output.specs.Decimal.{decimal}
+use Rattle.output.specs.Lines.{mostSpaced, spaced, line, refusalText}
+use Rattle.inspect.specs.declared.ending.Stop.{Stop}
+use Rattle.inspect.specs.declared.ending.Stop.the-variants.{Fault, End, Cut}
+use Rattle.inspect.specs.FieldWords.{fieldText, mostFieldText}
+
+-- The line of a number: its place, its byte, its value and its field.
+abbrev pub numberLine : (place at value : ℕ) → Field → List ℕ
+numberLine place at value field = decimal place ++ spaced at ++ spaced value ++ fieldText field
+
+-- That of a number that has a fault, and so no value.
+abbrev pub faultyLine : (place at : ℕ) → Field → List ℕ
+faultyLine place at field = decimal place ++ spaced at ++ ascii " -" ++ fieldText field
+
+-- The line of a refused file; none where it is accepted.
+abbrev pub verdictText : Verdict → List ℕ
+verdictText accepts = []
+verdictText (refuses number place) = refusalText number place
+
+-- ---- how a page ends
+-- Where a walk stops, by what it finds there, whether the file was cut, and whether all of its bytes are walked: at an end that is no fault
+-- in what was read of a cut file, at the end of a file, and else at a number that has a fault.
+abbrev pub stopOf : Found → (cut walked : Bool) → Stop
+stopOf (value-found value next) cut walked = Fault
+stopOf (fault-found refusal) cut walked = cond (eqb refusal ends) (cond cut Cut (cond walked End Fault)) Fault
+
+-- The line of the number there, where it has a fault.
+abbrev pub stoppedAt : Stop → (place at : ℕ) → Field → List ℕ
+stoppedAt Fault place at field = faultyLine place at field
+stoppedAt End place at field = []
+stoppedAt Cut place at field = []
+
+-- A letter for the stop: with the fault's number and its place, or with the count of numbers and of bytes before it.
+abbrev pub stopLine : Stop → (fault place at : ℕ) → List ℕ
+stopLine Fault fault place at = line (ascii "F") (fault ∷ place ∷ [])
+stopLine End fault place at = line (ascii "E") (place ∷ at ∷ [])
+stopLine Cut fault place at = line (ascii "C") (place ∷ at ∷ [])
+
+-- The end of the page of a file, where its walk stopped at a place, a byte and a field. What the accounts refuse is not looked at.
+unfoldable pub pageEnd : (file : List ℕ) (cut : Bool) (place at : ℕ) → Field → List ℕ
+pageEnd file cut place at field =
+    let stop = stopOf (readAt file at) cut (eqb at (length file)) in
+    stoppedAt stop place at field
+    ++ verdictText (readVerdict (periodFile file))
+    ++ stopLine stop (refusalOf (readAt file at)) place at
+
+-- No text that is printed at a time is longer: the lines of a fault.
+abbrev pub mostText : ℕ
+mostText = mostFieldText + mostSpaced * 6 + 6

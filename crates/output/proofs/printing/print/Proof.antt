@@ -1,0 +1,68 @@
+-- `output::printing::print` meets its contract and ends: each turn leaves less of the text, and what is taken lies within it. Assumes nothing.
+use Prim.Native.Nat.{_≤_, _-_}
+use native.Mathlib.Omega.{arith}
+use lib.ListN.{length}
+use borrow.Author.Needs.{needs}
+use Rattle.output.proofs.printing.print.Statement.{statement}
+use Rattle.output.proofs.printing.print.Tie as tie
+
+abbrev Inv-loop : tie.InvT-loop
+Inv-loop program text taken₀ taken = taken ≤ length text
+
+abbrev μ-loop : tie.MeasureT-loop
+μ-loop program text taken₀ taken = length text - taken
+
+loop-holds : tie.Need-loop-holds Inv-loop μ-loop
+loop-holds c = omega arith
+
+sub-left : tie.Need-sub-left Inv-loop μ-loop
+sub-left c = omega arith
+
+part-left-start : tie.Need-part-left-start Inv-loop μ-loop
+part-left-start c = omega arith
+
+part-left-end : tie.Need-part-left-end Inv-loop μ-loop
+part-left-end c = omega arith
+
+write-requires : tie.Need-write-requires Inv-loop μ-loop
+write-requires c κs = search needs
+
+count-requires : tie.Need-count-requires Inv-loop μ-loop
+count-requires c κs = search needs
+
+say-unwritten-requires : tie.Need-say-unwritten-requires Inv-loop μ-loop
+say-unwritten-requires c κs = search needs
+
+returns : tie.Need-returns Inv-loop μ-loop
+returns c = omega arith
+
+add-taken : tie.Need-add-taken Inv-loop μ-loop
+add-taken c = omega arith
+
+loop-less : tie.Need-loop-less Inv-loop μ-loop
+loop-less c = omega arith
+
+loop-again : tie.Need-loop-again Inv-loop μ-loop
+loop-again c = omega arith
+
+returns-2 : tie.Need-returns-2 Inv-loop μ-loop
+returns-2 c = omega arith
+
+pub print-spec : {M : Type 1} → statement M
+print-spec =
+    tie.close
+    (tie.spec
+    Inv-loop
+    μ-loop
+    loop-holds
+    sub-left
+    part-left-start
+    part-left-end
+    write-requires
+    count-requires
+    say-unwritten-requires
+    returns
+    add-taken
+    loop-less
+    loop-again
+    returns-2)

@@ -1,0 +1,16 @@
+-- Text that is put into a lent buffer.
+use Prim.Native.Nat.{ℕ, suc, _+_, min}
+use mathlib.Core.Path.{_≡_}
+use mathlib.Core.List.{List}
+use lib.ListN.{length}
+use lib.Seq.{sets}
+
+-- The byte behind text of so many bytes that starts at a byte: one past all that the buffer has, where it is too short.
+abbrev pub behind : (at bytes room : ℕ) → ℕ
+behind at bytes room = min (at + bytes) (suc room)
+
+-- What putting text at a byte of a buffer promises: the byte behind it; and the text stands in the buffer, as far as there is room, with all
+-- else as it was.
+pub record Put (text : List ℕ) (at : ℕ) (buffer : List ℕ) (end : ℕ) (buffer' : List ℕ) : Type 0 where
+  pub ends : end ≡ behind at (length text) (length buffer)
+  pub stands : buffer' ≡ sets buffer at text

@@ -1,0 +1,70 @@
+// Whole lines: words and numbers, the line of a refused file, the rows of a table.
+ghost use Prim.Native.Nat.{_/_};
+ghost use mathlib.Core.Path.{_≡_};
+ghost use mathlib.Core.List.{_∷_};
+ghost use Rattle.output.specs.Lines.{line, refusalLine, tableText};
+ghost use Rattle.output.specs.Put.{Put};
+use crate::text::put_byte;
+use crate::text::put_spaced;
+use crate::text::put_words;
+use fields::Refusal;
+
+// Puts words, each number behind them after a space, and the end of the line.
+pub fn put_line(buffer: &mut [u8], at: usize, words: &[u8], numbers: &[u64]) -> usize
+    ensures { λ r. ⌜ Put (line (now (words .entry)) (now (numbers .entry))) at (now (buffer .entry)) r (now (buffer .exit)) ⌝ }
+{
+    let mut end = put_words(buffer, at, words);
+    let mut n = 0;
+    while n < numbers.len() {
+        end = put_spaced(buffer, end, numbers[n]);
+        n += 1;
+    }
+    put_byte(buffer, end, b'\n')
+}
+
+// Puts the line of a refused file: R, then the number of refusal and its place.
+pub fn put_refusal(buffer: &mut [u8], at: usize, refusal: Refusal) -> usize
+    ensures { λ r. ⌜ Put (refusalLine refusal) at (now (buffer .entry)) r (now (buffer .exit)) ⌝ }
+{
+    let reason = refusal.reason;
+    let numbers = [reason.number() as u64, refusal.place];
+    put_line(buffer, at, b"R", &numbers)
+}
+
+// Puts the rows of a table, with so many numbers each, of records that are numbered from 1.
+pub fn put_rows(buffer: &mut [u8], at: usize, letter: &[u8], table: &[u64], numbers: usize) -> usize
+    ensures { λ r. ⌜ Put (tableText (now (letter .entry)) numbers (now (table .entry))) at (now (buffer .entry)) r (now (buffer .exit)) ⌝ }
+{
+    let rows = rows_in(table.len(), numbers);
+    // No row yet: no text, put where the rows begin.
+    let mut end = put_words(buffer, at, b"");
+    let mut row = 0;
+    while row < rows {
+        let first = numbers * row;
+        end = put_row(
+            buffer,
+            end,
+            letter,
+            row as u64 + 1,
+            &table[first..first + numbers],
+        );
+        row += 1;
+    }
+    end
+}
+
+// Puts a row: its letter, its record's own number, and the row's numbers.
+fn put_row(buffer: &mut [u8], at: usize, letter: &[u8], own: u64, numbers: &[u64]) -> usize
+    ensures { λ r. ⌜ Put (line (now (letter .entry)) (own ∷ now (numbers .entry))) at (now (buffer .entry)) r (now (buffer .exit)) ⌝ }
+{
+    let at = put_words(buffer, at, letter);
+    let at = put_spaced(buffer, at, own);
+    put_line(buffer, at, b"", numbers)
+}
+
+// How many whole rows a table has; none where a row has no numbers.
+fn rows_in(table: usize, numbers: usize) -> usize
+    ensures { λ r. ⌜ r ≡ table / numbers ⌝ }
+{
+    if numbers == 0 { 0 } else { table / numbers }
+}

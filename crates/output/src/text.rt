@@ -1,0 +1,61 @@
+// Pieces of a line: words, and numbers in decimal.
+ghost use Prim.Native.Nat.{suc, _<_, _^_, min};
+ghost use mathlib.Core.Path.{_≡_};
+ghost use mathlib.Core.List.{[], _∷_};
+ghost use lib.ListN.{length};
+ghost use Rattle.output.specs.Decimal.{decimal};
+ghost use Rattle.output.specs.Lines.{spaced};
+ghost use Rattle.output.specs.Put.{behind, Put};
+
+// No number of 64 bits has more digits in decimal.
+const MOST_DIGITS: usize = 20;
+
+// So many bytes a number takes at most, with the space before it.
+pub const MOST_SPACED: usize = 1 + MOST_DIGITS;
+
+// Puts words, or any bytes.
+pub fn put_words(buffer: &mut [u8], at: usize, words: &[u8]) -> usize
+    ensures { λ r. ⌜ Put (now (words .entry)) at (now (buffer .entry)) r (now (buffer .exit)) ⌝ }
+{
+    let mut end = least(at, buffer.len() + 1);
+    let mut i = 0;
+    while i < words.len() {
+        end = put_byte(buffer, end, words[i]);
+        i += 1;
+    }
+    end
+}
+
+// Puts a number's decimal digits.
+pub fn put_number(buffer: &mut [u8], at: usize, number: u64) -> usize
+    ensures { λ r. ⌜ Put (decimal number) at (now (buffer .entry)) r (now (buffer .exit)) ⌝ }
+{
+    let mut digits = [0; MOST_DIGITS];
+    let count = io::decimal(number, &mut digits);
+    put_words(buffer, at, &digits[..count])
+}
+
+// Puts a number after what stands before it.
+pub fn put_spaced(buffer: &mut [u8], at: usize, number: u64) -> usize
+    ensures { λ r. ⌜ Put (spaced number) at (now (buffer .entry)) r (now (buffer .exit)) ⌝ }
+{
+    let at = put_byte(buffer, at, b' ');
+    put_number(buffer, at, number)
+}
+
+// Puts one byte: nearly every second call puts just a space.
+pub(crate) fn put_byte(buffer: &mut [u8], at: usize, byte: u8) -> usize
+    ensures { λ r. ⌜ Put (byte ∷ []) at (now (buffer .entry)) r (now (buffer .exit)) ⌝ }
+{
+    if buffer.len() <= at {
+        return buffer.len() + 1;
+    }
+    buffer[at] = byte;
+    at + 1
+}
+
+fn least(a: usize, b: usize) -> usize
+    ensures { λ r. ⌜ r ≡ min a b ⌝ }
+{
+    if a < b { a } else { b }
+}

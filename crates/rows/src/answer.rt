@@ -1,0 +1,33 @@
+// The answer to a period file, as text: its rows, or the line of a refused file (01, "One whole period").
+ghost use Prim.Native.Nat.{_≤_};
+ghost use lib.ListN.{length, take};
+ghost use Rattle.rows.specs.Printed.{mostText, Answered};
+use fields::Answer;
+use output::put_refusal;
+use output::put_rows;
+use period::PLANT_NUMBERS;
+use period::SEGMENT_NUMBERS;
+use period::quantify;
+use records::Plant;
+use records::Segment;
+
+// Answers the file in so many bytes at the start of the room: its text takes the file's place, and the
+// byte behind it is answered. The tables have room for the rows of every period, so that no file is
+// refused with 14 or 15.
+pub(crate) fn answer(room: &mut [u8], bytes: usize) -> usize
+    requires { ⌜ bytes ≤ length (now room) ⌝ }
+    requires { ⌜ mostText ≤ length (now room) ⌝ }
+    ensures { λ r. ⌜ Answered (take bytes (now (room .entry))) r (now (room .exit)) ⌝ }
+{
+    let mut plant_table = [0u64; PLANT_NUMBERS * Plant::MOST];
+    let mut segment_table = [0u64; SEGMENT_NUMBERS * Segment::MOST];
+    let quantified = quantify(&room[..bytes], &mut plant_table, &mut segment_table);
+    let answer = quantified.answer;
+    if let Answer::Refused(refusal) = answer {
+        return put_refusal(room, 0, refusal);
+    }
+    let plants = quantified.plant_numbers;
+    let segments = quantified.segment_numbers;
+    let end = put_rows(room, 0, b"P", &plant_table[..plants], PLANT_NUMBERS);
+    put_rows(room, end, b"S", &segment_table[..segments], SEGMENT_NUMBERS)
+}
