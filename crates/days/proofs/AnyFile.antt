@@ -5,8 +5,8 @@ use mathlib.Core.List.{List}
 use lib.ListN.{take}
 use Rattle.meter.specs.Sheets.{mostSheetBytes}
 use Rattle.meter.proofs.Longest.{longer}
-use Rattle.days.specs.Printed.{answerText, printed}
+use Rattle.days.specs.Printed.{answerText, printedDays}
 
-pub any-sheet : (sheet : List ℕ) (room : ℕ) → mostSheetBytes < room → printed (take room sheet) ≡ printed sheet
-unfolding printed
+pub any-sheet : (sheet : List ℕ) (room : ℕ) → mostSheetBytes < room → printedDays (take room sheet) ≡ printedDays sheet
+unfolding printedDays
 any-sheet sheet room more = ap answerText (longer sheet room more)

@@ -11,18 +11,18 @@ use Rattle.meter.specs.Figures.{repeatsAfter, repeats, shows, runFrom, longestR
 use Rattle.meter.specs.Days.{meterDays}
 use Rattle.output.specs.Words.{ascii}
 use Rattle.output.specs.Decimal.{decimalWithin}
-use Rattle.output.specs.Lines.{line}
-use Rattle.days.specs.Printed.{printed}
+use Rattle.output.specs.Lines.{textLine}
+use Rattle.days.specs.Printed.{printedDays}
 
 pub examples :
     -- 10000, 5001, 5001, 0, 0, 0
-    (printed (0x06 ∷ 0x90 ∷ 0x4E ∷ 0x89 ∷ 0x27 ∷ 0x89 ∷ 0x27 ∷ 0x00 ∷ 0x00 ∷ 0x00 ∷ []) ≡ ascii "20002 1 2 2 2\n")
+    (printedDays (0x06 ∷ 0x90 ∷ 0x4E ∷ 0x89 ∷ 0x27 ∷ 0x89 ∷ 0x27 ∷ 0x00 ∷ 0x00 ∷ 0x00 ∷ []) ≡ ascii "20002 1 2 2 2\n")
     -- a meter that shows nothing
-    × (printed (0x01 ∷ 0x00 ∷ []) ≡ ascii "0 0 0 0 0\n")
+    × (printedDays (0x01 ∷ 0x00 ∷ []) ≡ ascii "0 0 0 0 0\n")
     -- no bytes; no days; a byte behind the last reading
-    × (printed [] ≡ ascii "R 1 0\n")
-    × (printed (0x00 ∷ []) ≡ ascii "R 5 0\n")
-    × (printed (0x01 ∷ 0x07 ∷ 0x00 ∷ []) ≡ ascii "R 9 2\n")
+    × (printedDays [] ≡ ascii "R 1 0\n")
+    × (printedDays (0x00 ∷ []) ≡ ascii "R 5 0\n")
+    × (printedDays (0x01 ∷ 0x07 ∷ 0x00 ∷ []) ≡ ascii "R 9 2\n")
 unfolding gather value padded formed reading runOf run reads each readings sheet sheetFile sum repeatsAfter repeats shows runFrom longestRun
-    earliest figuresOf meterDays flatMap decimalWithin line printed
+    earliest figuresOf meterDays flatMap decimalWithin textLine printedDays
 examples = (refl, refl, refl, refl, refl)

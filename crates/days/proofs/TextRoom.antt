@@ -1,18 +1,18 @@
 -- The text of every answer has room.
-use Prim.Native.Nat.{ℕ, _+_, _≤_}
+use Prim.Native.Nat.{ℕ, _≤_}
 use mathlib.Core.List.{List, [], _∷_}
 use native.Mathlib.Nat.{le-trans}
 use native.Mathlib.Omega.{arith}
 use lib.ListN.{length, take, length-append}
 use Rattle.meter.specs.Days.{SheetAnswer, figures, refusal, meterDays}
 use Rattle.output.specs.Words.{ascii}
-use Rattle.output.specs.Put.{Put}
+use Rattle.output.specs.Put.{Put, Holds}
 use Rattle.output.proofs.Putting.{put-within, put-whole}
 use Rattle.output.proofs.Decimals.{decimal-long}
 use Rattle.output.proofs.Room.{spaced-long, line-long}
-use Rattle.days.specs.Printed.{answerText, printed, mostText, Answered}
+use Rattle.days.specs.Printed.{answerText, printedDays, mostDaysText}
 
-answer-room : (answer : SheetAnswer) → length (answerText answer) ≤ mostText
+answer-room : (answer : SheetAnswer) → length (answerText answer) ≤ mostDaysText
 answer-room (figures found) =
     simp
     length-append
@@ -26,14 +26,14 @@ answer-room (figures found) =
     ))
 answer-room (refusal number place) = omega (arith, line-long (ascii "R") (number ∷ place ∷ []))
 
-text-room : (sheet : List ℕ) → length (answerText (meterDays sheet)) ≤ mostText
+text-room : (sheet : List ℕ) → length (answerText (meterDays sheet)) ≤ mostDaysText
 text-room sheet = answer-room (meterDays sheet)
 
--- so a sheet whose text is put at the start of such room is answered
-pub answered :
+-- so room that a sheet's text is put into, at its start, then holds it
+pub held :
     (room : List ℕ) (bytes : ℕ) {end : ℕ} {room' : List ℕ} → Put (answerText (meterDays (take bytes room))) 0 room end room' →
-    mostText ≤ length room → Answered (take bytes room) end room'
-unfolding printed
-answered room bytes put enough =
+    mostDaysText ≤ length room → Holds (printedDays (take bytes room)) end room'
+unfolding printedDays
+held room bytes put enough =
     let fits = le-trans (text-room (take bytes room)) enough in
-    record { within = put-within put fits; text = put-whole put fits }
+    record { within = put-within put fits; stands = put-whole put fits }

@@ -1,8 +1,6 @@
 -- What is printed for a meter's sheet (02, T-01).
-use Prim.Native.Nat.{ℕ, _+_, _*_, _≤_}
-use mathlib.Core.Path.{_≡_}
+use Prim.Native.Nat.{ℕ, _+_, _*_}
 use mathlib.Core.List.{List, _++_}
-use lib.ListN.{length, take}
 use Rattle.meter.specs.declared.figures.Figures.{Figures}
 use Rattle.meter.specs.Days.{SheetAnswer, figures, refusal, meterDays}
 use Rattle.output.specs.Decimal.{decimal}
@@ -23,17 +21,12 @@ abbrev pub answerText : SheetAnswer → List ℕ
 answerText (figures found) = figuresText found
 answerText (refusal number place) = refusalText number place
 
-unfoldable pub printed : List ℕ → List ℕ
-printed sheet = answerText (meterDays sheet)
+unfoldable pub printedDays : List ℕ → List ℕ
+printedDays sheet = answerText (meterDays sheet)
 
 -- No more bytes are printed than the figures and the end of their line can take.
 abbrev pub figuresOnTheLine : ℕ
 figuresOnTheLine = 5
 
-abbrev pub mostText : ℕ
-mostText = mostSpaced * figuresOnTheLine + 1
-
--- A sheet is answered: what stands in the room up to a byte is its text, all of it.
-pub record Answered (sheet : List ℕ) (end : ℕ) (room : List ℕ) : Type 0 where
-  pub within : end ≤ length room
-  pub text : take end room ≡ printed sheet
+abbrev pub mostDaysText : ℕ
+mostDaysText = mostSpaced * figuresOnTheLine + 1

@@ -1,8 +1,8 @@
 // The answer to a sheet, as text: its figures, or the line of a refused sheet (02, T-01).
 ghost use Prim.Native.Nat.{_≤_};
 ghost use lib.ListN.{length, take};
-ghost use Rattle.output.specs.Put.{Put};
-ghost use Rattle.days.specs.Printed.{figuresText, mostText, Answered};
+ghost use Rattle.output.specs.Put.{Put, Holds};
+ghost use Rattle.days.specs.Printed.{figuresText, printedDays, mostDaysText};
 use meter::Figures;
 use meter::MeterDays;
 use meter::days;
@@ -15,8 +15,8 @@ use output::put_words;
 // the byte behind it is answered.
 pub(crate) fn answer(room: &mut [u8], bytes: usize) -> usize
     requires { ⌜ bytes ≤ length (now room) ⌝ }
-    requires { ⌜ mostText ≤ length (now room) ⌝ }
-    ensures { λ r. ⌜ Answered (take bytes (now (room .entry))) r (now (room .exit)) ⌝ }
+    requires { ⌜ mostDaysText ≤ length (now room) ⌝ }
+    ensures { λ r. ⌜ Holds (printedDays (take bytes (now (room .entry)))) r (now (room .exit)) ⌝ }
 {
     match days(&room[..bytes]) {
         MeterDays::Counted(figures) => put_figures(room, figures),

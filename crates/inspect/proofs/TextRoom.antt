@@ -1,7 +1,7 @@
 -- What is printed at a time has room.
 use Prim.Native.Nat.{ℕ, _+_, _*_, _≤_}
 use mathlib.Core.Bool.{Bool}
-use mathlib.Core.List.{List, [], _∷_, _++_}
+use mathlib.Core.List.{List, [], _∷_}
 use native.Mathlib.Omega.{arith}
 use lib.Dec.{eqb}
 use lib.ListN.{length, length-append}
@@ -12,17 +12,16 @@ use Rattle.fields.specs.Files.{readVerdict}
 use Rattle.records.specs.Periods.{periodFile}
 use Rattle.inspector.specs.declared.field.Field.{Field}
 use Rattle.output.specs.Words.{ascii}
-use Rattle.output.specs.Decimal.{decimal}
-use Rattle.output.specs.Lines.{mostSpaced, spaced, line}
+use Rattle.output.specs.Lines.{mostSpaced}
 use Rattle.output.proofs.Decimals.{decimal-long}
 use Rattle.output.proofs.Room.{spaced-long, line-long}
 use Rattle.inspect.specs.declared.ending.Stop.{Stop}
 use Rattle.inspect.specs.declared.ending.Stop.the-variants.{Fault, End, Cut}
 use Rattle.inspect.specs.FieldWords.{mostFieldText}
-use Rattle.inspect.specs.Page.{numberLine, verdictText, stopOf, stoppedAt, stopLine, pageEnd, mostText}
+use Rattle.inspect.specs.Page.{numberLine, verdictText, stopOf, stoppedAt, stopLine, pageEnd, mostPageText}
 use Rattle.inspect.proofs.FieldNames.{field-long}
 
-pub number-room : (place at value : ℕ) (field : Field) → length (numberLine place at value field) ≤ mostText
+pub number-room : (place at value : ℕ) (field : Field) → length (numberLine place at value field) ≤ mostPageText
 number-room place at value field =
     simp length-append (omega (arith, decimal-long place, spaced-long at, spaced-long value, field-long field))
 
@@ -40,7 +39,7 @@ stop-long Fault fault place at = omega (arith, line-long (ascii "F") (fault ∷ 
 stop-long End fault place at = omega (arith, line-long (ascii "E") (place ∷ at ∷ []))
 stop-long Cut fault place at = omega (arith, line-long (ascii "C") (place ∷ at ∷ []))
 
-pub end-room : (file : List ℕ) (cut : Bool) (place at : ℕ) (field : Field) → length (pageEnd file cut place at field) ≤ mostText
+pub end-room : (file : List ℕ) (cut : Bool) (place at : ℕ) (field : Field) → length (pageEnd file cut place at field) ≤ mostPageText
 unfolding pageEnd
 end-room file cut place at field =
     let stop = stopOf (readAt file at) cut (eqb at (length file)) in

@@ -13,7 +13,7 @@ use Rattle.records.specs.Periods.{periodFile}
 use Rattle.inspector.specs.declared.field.Field.{Field}
 use Rattle.output.specs.Words.{ascii}
 use Rattle.output.specs.Decimal.{decimal}
-use Rattle.output.specs.Lines.{mostSpaced, spaced, line, refusalText}
+use Rattle.output.specs.Lines.{mostSpaced, spaced, textLine, refusalText}
 use Rattle.inspect.specs.declared.ending.Stop.{Stop}
 use Rattle.inspect.specs.declared.ending.Stop.the-variants.{Fault, End, Cut}
 use Rattle.inspect.specs.FieldWords.{fieldText, mostFieldText}
@@ -46,9 +46,9 @@ stoppedAt Cut place at field = []
 
 -- A letter for the stop: with the fault's number and its place, or with the count of numbers and of bytes before it.
 abbrev pub stopLine : Stop → (fault place at : ℕ) → List ℕ
-stopLine Fault fault place at = line (ascii "F") (fault ∷ place ∷ [])
-stopLine End fault place at = line (ascii "E") (place ∷ at ∷ [])
-stopLine Cut fault place at = line (ascii "C") (place ∷ at ∷ [])
+stopLine Fault fault place at = textLine (ascii "F") (fault ∷ place ∷ [])
+stopLine End fault place at = textLine (ascii "E") (place ∷ at ∷ [])
+stopLine Cut fault place at = textLine (ascii "C") (place ∷ at ∷ [])
 
 -- The end of the page of a file, where its walk stopped at a place, a byte and a field. What the accounts refuse is not looked at.
 unfoldable pub pageEnd : (file : List ℕ) (cut : Bool) (place at : ℕ) → Field → List ℕ
@@ -59,5 +59,5 @@ pageEnd file cut place at field =
     ++ stopLine stop (refusalOf (readAt file at)) place at
 
 -- No text that is printed at a time is longer: the lines of a fault.
-abbrev pub mostText : ℕ
-mostText = mostFieldText + mostSpaced * 6 + 6
+abbrev pub mostPageText : ℕ
+mostPageText = mostFieldText + mostSpaced * 6 + 6

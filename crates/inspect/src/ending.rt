@@ -1,14 +1,15 @@
 // How a page ends: 01's line where reading refuses the file, and a last line that says where the walk
 // stopped.
-ghost use Prim.Native.Nat.{_≤_};
+ghost use Prim.Native.Nat.{_+_, _≤_};
 ghost use mathlib.Core.Path.{_≡_};
 ghost use lib.ListN.{length};
 ghost use Rattle.fields.specs.Answers.{said};
 ghost use Rattle.number.specs.Finding.{finds};
 ghost use Rattle.output.specs.Put.{Put};
-ghost use Rattle.inspect.specs.Page.{faultyLine, stopOf, stoppedAt, verdictText, stopLine, pageEnd, mostText};
+ghost use Rattle.inspect.specs.Page.{faultyLine, stopOf, stoppedAt, verdictText, stopLine, pageEnd, mostPageText};
 use crate::words::put_field;
 use fields::Answer;
+use fields::Spot;
 use inspector::Field;
 use inspector::step_at;
 use number::Number;
@@ -30,39 +31,40 @@ enum Stop {
     Cut,
 }
 
-// Prints how the page ends of a walk that stopped at a place, a byte and a field, with room for that.
+// Prints how the page ends of a walk that stopped at a spot and a field, behind the text that waits in
+// the room.
 pub(crate) fn print_ending(
     room: &mut [u8],
+    end: usize,
     file: &[u8],
     cut: bool,
-    place: u64,
-    at: usize,
+    at: Spot,
     field: Field,
 )
-    requires { ⌜ mostText ≤ length (now room) ⌝ }
+    requires { ⌜ end + mostPageText ≤ length (now room) ⌝ }
 {
-    let end = put_ending(room, file, cut, place, at, field);
+    let end = put_ending(room, end, file, cut, at, field);
     print(b"inspect", &room[..end]);
 }
 
-// Puts it at the start of a buffer: the number where the walk stopped, if it has a fault, what reading
-// refuses, and the stop.
+// Puts it into a buffer: the number where the walk stopped, if it has a fault, what reading refuses, and
+// the stop.
 fn put_ending(
     buffer: &mut [u8],
+    end: usize,
     file: &[u8],
     cut: bool,
-    place: u64,
-    at: usize,
+    at: Spot,
     field: Field,
 ) -> usize
-    ensures { λ r. ⌜ Put (pageEnd (now (file .entry)) cut place at field) 0 (now (buffer .entry)) r (now (buffer .exit)) ⌝ }
+    ensures { λ r. ⌜ Put (pageEnd (now (file .entry)) cut (at .place) (at .byte) field) end (now (buffer .entry)) r (now (buffer .exit)) ⌝ }
 {
-    let found = step_at(file, at).found;
+    let found = step_at(file, at.byte).found;
     let answer = read(file).answer;
-    let stop = stop_of(found, cut, at == file.len());
-    let end = put_stopped_at(buffer, stop, place, at, field);
+    let stop = stop_of(found, cut, at.byte == file.len());
+    let end = put_stopped_at(buffer, end, stop, at.place, at.byte, field);
     let end = put_verdict(buffer, end, answer);
-    put_stop(buffer, end, stop, found.refusal() as u64, place, at)
+    put_stop(buffer, end, stop, found.refusal() as u64, at.place, at.byte)
 }
 
 // Bytes that end are cut where the file goes on behind them. Else they end inside a number, or the file
@@ -84,21 +86,28 @@ fn stop_of(found: Number, cut: bool, all_walked: bool) -> Stop
 }
 
 // Puts the line of the number where the walk stopped; nothing where there is none.
-fn put_stopped_at(buffer: &mut [u8], stop: Stop, place: u64, at: usize, field: Field) -> usize
-    ensures { λ r. ⌜ Put (stoppedAt stop place at field) 0 (now (buffer .entry)) r (now (buffer .exit)) ⌝ }
+fn put_stopped_at(
+    buffer: &mut [u8],
+    end: usize,
+    stop: Stop,
+    place: u64,
+    at: usize,
+    field: Field,
+) -> usize
+    ensures { λ r. ⌜ Put (stoppedAt stop place at field) end (now (buffer .entry)) r (now (buffer .exit)) ⌝ }
 {
     match stop {
-        Stop::Fault => put_faulty(buffer, place, at, field),
-        Stop::End => put_words(buffer, 0, b""),
-        Stop::Cut => put_words(buffer, 0, b""),
+        Stop::Fault => put_faulty(buffer, end, place, at, field),
+        Stop::End => put_words(buffer, end, b""),
+        Stop::Cut => put_words(buffer, end, b""),
     }
 }
 
 // Puts the line of a number that has a fault, and so no value.
-fn put_faulty(buffer: &mut [u8], place: u64, at: usize, field: Field) -> usize
-    ensures { λ r. ⌜ Put (faultyLine place at field) 0 (now (buffer .entry)) r (now (buffer .exit)) ⌝ }
+fn put_faulty(buffer: &mut [u8], end: usize, place: u64, at: usize, field: Field) -> usize
+    ensures { λ r. ⌜ Put (faultyLine place at field) end (now (buffer .entry)) r (now (buffer .exit)) ⌝ }
 {
-    let end = put_number(buffer, 0, place);
+    let end = put_number(buffer, end, place);
     let end = put_spaced(buffer, end, at as u64);
     let end = put_words(buffer, end, b" -");
     put_field(buffer, end, field)

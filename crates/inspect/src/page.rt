@@ -1,11 +1,12 @@
-// The inspector's page: a line for each number of a file, and then how it ends. Each function answers
-// whether all that it prints could be written.
+// The inspector's page: a line for each number of a file, and then how it ends.
 ghost use Prim.Native.Nat.{_≤_};
 ghost use lib.ListN.{length};
 ghost use Rattle.output.specs.Put.{Put};
-ghost use Rattle.inspect.specs.Page.{numberLine, mostText};
+ghost use Rattle.inspect.specs.Page.{numberLine, mostPageText};
 use crate::ending::print_ending;
+use crate::room::MOST_TEXT;
 use crate::words::put_field;
+use fields::Spot;
 use inspector::Field;
 use inspector::field_at;
 use inspector::step_at;
@@ -15,12 +16,14 @@ use output::put_number;
 use output::put_spaced;
 use records::header_of;
 
-// Walks the file from its start, number by number, up to the first step that answers no number, with
-// room for the text of each. Of a file that is cut these are the first bytes.
+// Walks the file from its start, number by number, up to the first step that answers no number. Of a
+// file that is cut these are the first bytes. Lines wait in the room until there is less of it left
+// than the longest text can take.
 pub(crate) fn print_page(room: &mut [u8], file: &[u8], cut: bool)
-    requires { ⌜ mostText ≤ length (now room) ⌝ }
+    requires { ⌜ mostPageText ≤ length (now room) ⌝ }
 {
     let header = header_of(file);
+    let mut end = 0;
     let mut place = 0;
     let mut at = 0;
     loop {
@@ -28,30 +31,33 @@ pub(crate) fn print_page(room: &mut [u8], file: &[u8], cut: bool)
         let found = step.found;
         let field = field_at(header, place);
         let Number::Value { value, next: _ } = found else {
-            print_ending(room, file, cut, place, at, field);
+            print_ending(room, end, file, cut, Spot { byte: at, place }, field);
             return;
         };
-        if !print_line(room, place, at, value, field) {
-            return;
+        end = put_number_line(room, end, place, at, value, field);
+        if room.len() - end < MOST_TEXT {
+            if print(b"inspect", &room[..end]) < end {
+                return;
+            }
+            end = 0;
         }
         place += 1;
         at = step.at;
     }
 }
 
-// Prints the line of a number, with room for it.
-fn print_line(room: &mut [u8], place: u64, at: usize, value: u64, field: Field) -> bool
-    requires { ⌜ mostText ≤ length (now room) ⌝ }
+// Puts place, byte, value and field of a number.
+fn put_number_line(
+    buffer: &mut [u8],
+    end: usize,
+    place: u64,
+    at: usize,
+    value: u64,
+    field: Field,
+) -> usize
+    ensures { λ r. ⌜ Put (numberLine place at value field) end (now (buffer .entry)) r (now (buffer .exit)) ⌝ }
 {
-    let end = put_number_line(room, place, at, value, field);
-    print(b"inspect", &room[..end]) == end
-}
-
-// Puts place, byte, value and field of a number at the start of a buffer.
-fn put_number_line(buffer: &mut [u8], place: u64, at: usize, value: u64, field: Field) -> usize
-    ensures { λ r. ⌜ Put (numberLine place at value field) 0 (now (buffer .entry)) r (now (buffer .exit)) ⌝ }
-{
-    let end = put_number(buffer, 0, place);
+    let end = put_number(buffer, end, place);
     let end = put_spaced(buffer, end, at as u64);
     let end = put_spaced(buffer, end, value);
     put_field(buffer, end, field)

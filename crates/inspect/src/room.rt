@@ -1,7 +1,7 @@
-// Room for what is printed at a time.
-ghost use mathlib.Core.Path.{_≡_};
+// Room for what is printed.
+ghost use Prim.Native.Nat.{_≤_};
 ghost use lib.ListN.{length};
-ghost use Rattle.inspect.specs.Page.{mostText};
+ghost use Rattle.inspect.specs.Page.{mostPageText};
 use output::MOST_SPACED;
 
 // No words of a field are longer, without its record's number.
@@ -14,11 +14,15 @@ const NUMBERS: usize = 7;
 // The letters and the ends of these two lines, and the sign for a value that is not there.
 const SIGNS: usize = 6;
 
-const TEXT: usize = FIELD_WORDS + MOST_SPACED * NUMBERS + SIGNS;
+// No line of a page is longer, nor are the lines at its end together.
+pub(crate) const MOST_TEXT: usize = FIELD_WORDS + MOST_SPACED * NUMBERS + SIGNS;
 
-// Zeros, with room for every line of a page, and for the lines at its end.
-pub(crate) fn text_room() -> [u8; TEXT]
-    ensures { λ r. ⌜ mostText ≡ length r ⌝ }
+// How many of the longest texts there is room for: so many lines and more are printed at a time.
+const TEXTS: usize = 10;
+
+// Zeros, with room for the lines that wait to be printed.
+pub(crate) fn text_room() -> [u8; TEXTS * MOST_TEXT]
+    ensures { λ r. ⌜ mostPageText ≤ length r ⌝ }
 {
-    [0; TEXT]
+    [0; TEXTS * MOST_TEXT]
 }

@@ -1,7 +1,7 @@
 -- A number's decimal digits: those that the kit makes are these, they read back as the number, and none leads with 0 but that of 0 itself.
 use Prim.Native.Nat.{ℕ, zero, suc, _+_, _-_, _*_, _/_, _%_, _^_, _≤_, _<_}
-use mathlib.Core.Path.{_≡_, refl, sym, ap, _∙_}
-use mathlib.Core.Bool.{Bool, true, false, cond}
+use mathlib.Core.Path.{_≡_, refl, sym, _∙_}
+use mathlib.Core.Bool.{Bool, true, false}
 use mathlib.Core.List.{List, [], _∷_, _++_}
 use native.Mathlib.Nat.{div-add-mod, mod-lt, mod-eq-of-lt, one-le-pow, pow-zero, pow-suc}
 use native.Mathlib.Numerals.{unary-clauses}
@@ -10,7 +10,7 @@ use lib.Dec.{ltb}
 use lib.ListN.{length, getD, length-append}
 use borrow.Author.Tests.{lt-ltb, le-ltb, ltb-true, ltb-false}
 use Rattle.io.specs.Digits.{glyph, digits, Fewest}
-use Rattle.output.specs.Decimal.{ten, digitZero, digit, mostDigits, decimalWithin, decimal, readAfter, readDecimal, IsDigit}
+use Rattle.output.specs.Decimal.{ten, digitZero, digit, mostDigits, decimalWithin, decimal, readAfter, readDecimal}
 
 -- ---- by the number's size
 -- below ten it is one digit

@@ -1,13 +1,13 @@
 -- Lines, number by number, and the rows of a table, row by row.
-use Prim.Native.Nat.{ℕ, suc, _+_, _-_, _*_, _/_, _≤_, _<_}
-use mathlib.Core.Path.{_≡_, refl, sym, ap, subst, _∙_}
+use Prim.Native.Nat.{ℕ, _+_, _-_, _*_, _/_, _≤_, _<_}
+use mathlib.Core.Path.{_≡_, refl, sym, ap, _∙_}
 use mathlib.Core.List.{List, [], _∷_, _++_, append-nil, append-assoc, flatMap}
 use native.Mathlib.Numerals.{add-one}
 use native.Mathlib.Nat.{div-mul-le-self, mul-le-mul-left}
 use native.Mathlib.Omega.{arith}
 use lib.ListN.{length, take, drop, getD}
 use lib.Seq.{take-suc, take-all}
-use Rattle.output.specs.Lines.{spaced, allSpaced, lineEnd, line, rowText, rowsText}
+use Rattle.output.specs.Lines.{spaced, allSpaced, textLine, rowsText}
 use Rattle.output.specs.Put.{Put}
 use Rattle.output.proofs.Putting.{put-then}
 
@@ -41,15 +41,15 @@ module _ {at : ℕ} {buffer : List ℕ} {end : ℕ} {buffer' : List ℕ} where
 
 -- ---- a row
 -- Its letter, its owns number and a line of its numbers are one line.
-pub row-line : (letter : List ℕ) (own : ℕ) (numbers : List ℕ) → letter ++ spaced own ++ line [] numbers ≡ line letter (own ∷ numbers)
-unfolding flatMap line
+pub row-line : (letter : List ℕ) (own : ℕ) (numbers : List ℕ) → letter ++ spaced own ++ textLine [] numbers ≡ textLine letter (own ∷ numbers)
+unfolding flatMap textLine
 row-line letter own numbers = simp append-assoc
 
 -- one row more, of the numbers from where it begins up to where it ends
 module _ {at : ℕ} {buffer : List ℕ} {end : ℕ} {buffer' : List ℕ} {end' : ℕ} {buffer'' : List ℕ} where
   pub row-more :
       (letter : List ℕ) (numbers : ℕ) (table : List ℕ) (row : ℕ) → Put (rowsText letter numbers table row) at buffer end buffer' →
-      Put (line letter ((row + 1) ∷ take (numbers * row + numbers - numbers * row) (drop (numbers * row) table))) end buffer' end' buffer'' →
+      Put (textLine letter ((row + 1) ∷ take (numbers * row + numbers - numbers * row) (drop (numbers * row) table))) end buffer' end' buffer'' →
       Put (rowsText letter numbers table (row + 1)) at buffer end' buffer''
   unfolding rowsText
   row-more letter numbers table row past next =

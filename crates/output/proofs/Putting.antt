@@ -8,7 +8,7 @@ use native.Mathlib.Numerals.{add-one}
 use native.Mathlib.Omega.{arith}
 use lib.ListN.{length, take, drop, getD, set, length-append}
 use lib.Seq.{sets, sets-eq, length-sets, set-out, take-suc, take-all, take-at}
-use Rattle.output.specs.Put.{behind, Put}
+use Rattle.output.specs.Put.{Put}
 
 -- ---- bytes stored one after another
 -- one list after another

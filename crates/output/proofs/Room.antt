@@ -1,11 +1,10 @@
 -- How much room text takes: no line is longer than its words and the most that its numbers can take.
 use Prim.Native.Nat.{ℕ, zero, suc, _+_, _*_, _/_, _≤_, _<_}
-use mathlib.Core.List.{List, [], _∷_, _++_, flatMap}
+use mathlib.Core.List.{List, [], _∷_, flatMap}
 use native.Mathlib.Nat.{le-trans, mul-comm, suc-mul, mul-le-mul-right, div-lt-iff-lt-mul}
 use native.Mathlib.Omega.{arith}
 use lib.ListN.{length, take, drop, length-append, length-take}
-use Rattle.output.specs.Decimal.{mostDigits, decimal}
-use Rattle.output.specs.Lines.{spaced, mostSpaced, allSpaced, line, rowText, rowsText, tableText, mostInRows}
+use Rattle.output.specs.Lines.{spaced, mostSpaced, allSpaced, textLine, rowText, rowsText, tableText, mostInRows}
 use Rattle.output.specs.Put.{Put}
 use Rattle.output.proofs.Decimals.{decimal-long}
 
@@ -20,8 +19,8 @@ all-spaced-long (number ∷ numbers) =
     rw (length-append (spaced number) (allSpaced numbers)) (omega (arith, spaced-long number, all-spaced-long numbers))
 
 -- ---- a line
-pub line-long : (words numbers : List ℕ) → length (line words numbers) ≤ length words + mostSpaced * length numbers + 1
-unfolding line
+pub line-long : (words numbers : List ℕ) → length (textLine words numbers) ≤ length words + mostSpaced * length numbers + 1
+unfolding textLine
 line-long words numbers = simp length-append (omega (arith, all-spaced-long numbers))
 
 -- ---- the rows of a table, behind a letter

@@ -1,5 +1,5 @@
 -- A number in decimal.
-use Prim.Native.Nat.{ℕ, zero, suc, _+_, _-_, _*_, _/_, _%_, _≤_, _<_}
+use Prim.Native.Nat.{ℕ, zero, suc, _+_, _-_, _*_, _/_, _%_}
 use mathlib.Core.Bool.{cond}
 use mathlib.Core.List.{List, [], _∷_, _++_}
 use lib.Dec.{ltb}
@@ -34,7 +34,3 @@ readAfter before (byte ∷ bytes) = readAfter (ten * before + (byte - digitZero)
 
 abbrev pub readDecimal : List ℕ → ℕ
 readDecimal bytes = readAfter 0 bytes
-
--- whether a byte is a digit
-abbrev pub IsDigit : ℕ → Type 0
-IsDigit byte = (digitZero ≤ byte) × (byte < digitZero + ten)

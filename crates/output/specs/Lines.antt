@@ -22,19 +22,19 @@ abbrev pub lineEnd : List ℕ
 lineEnd = ascii "\n"
 
 -- Words, numbers behind them, and the end of the line.
-unfoldable pub line : (words numbers : List ℕ) → List ℕ
-line words numbers = words ++ allSpaced numbers ++ lineEnd
+unfoldable pub textLine : (words numbers : List ℕ) → List ℕ
+textLine words numbers = words ++ allSpaced numbers ++ lineEnd
 
 -- The line of a refused file: R, the number of refusal, the place.
 abbrev pub refusalText : (number place : ℕ) → List ℕ
-refusalText number place = line (ascii "R") (number ∷ place ∷ [])
+refusalText number place = textLine (ascii "R") (number ∷ place ∷ [])
 
 abbrev pub refusalLine : Refusal → List ℕ
 refusalLine refusal = refusalText (numberOf (refusal .reason)) (refusal .place)
 
 -- The row at an index from 0 of a table with so many numbers a row: its letter, the record's number from 1 on, and the row's numbers.
 abbrev pub rowText : (letter : List ℕ) (numbers : ℕ) → List ℕ → (index : ℕ) → List ℕ
-rowText letter numbers table index = line letter (suc index ∷ take numbers (drop (numbers * index) table))
+rowText letter numbers table index = textLine letter (suc index ∷ take numbers (drop (numbers * index) table))
 
 -- The rows of so many records.
 unfoldable pub rowsText : (letter : List ℕ) (numbers : ℕ) → List ℕ → (count : ℕ) → List ℕ

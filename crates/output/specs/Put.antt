@@ -1,8 +1,8 @@
 -- Text that is put into a lent buffer.
-use Prim.Native.Nat.{ℕ, suc, _+_, min}
+use Prim.Native.Nat.{ℕ, suc, _+_, _≤_, min}
 use mathlib.Core.Path.{_≡_}
 use mathlib.Core.List.{List}
-use lib.ListN.{length}
+use lib.ListN.{length, take}
 use lib.Seq.{sets}
 
 -- The byte behind text of so many bytes that starts at a byte: one past all that the buffer has, where it is too short.
@@ -14,3 +14,8 @@ behind at bytes room = min (at + bytes) (suc room)
 pub record Put (text : List ℕ) (at : ℕ) (buffer : List ℕ) (end : ℕ) (buffer' : List ℕ) : Type 0 where
   pub ends : end ≡ behind at (length text) (length buffer)
   pub stands : buffer' ≡ sets buffer at text
+
+-- A buffer holds a text: what stands in it up to a byte is the text, all of it.
+pub record Holds (text : List ℕ) (end : ℕ) (buffer : List ℕ) : Type 0 where
+  pub within : end ≤ length buffer
+  pub stands : take end buffer ≡ text

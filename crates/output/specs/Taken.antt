@@ -1,4 +1,4 @@
--- What printing answers of the text that it was handed.
+-- What printing answers of the text that it was given.
 use Prim.Native.Nat.{ℕ, _≤_}
 use mathlib.Core.List.{List}
 use lib.ListN.{length}

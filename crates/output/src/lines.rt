@@ -2,7 +2,7 @@
 ghost use Prim.Native.Nat.{_/_};
 ghost use mathlib.Core.Path.{_≡_};
 ghost use mathlib.Core.List.{_∷_};
-ghost use Rattle.output.specs.Lines.{line, refusalLine, tableText};
+ghost use Rattle.output.specs.Lines.{textLine, refusalLine, tableText};
 ghost use Rattle.output.specs.Put.{Put};
 use crate::text::put_byte;
 use crate::text::put_spaced;
@@ -11,7 +11,7 @@ use fields::Refusal;
 
 // Puts words, each number behind them after a space, and the end of the line.
 pub fn put_line(buffer: &mut [u8], at: usize, words: &[u8], numbers: &[u64]) -> usize
-    ensures { λ r. ⌜ Put (line (now (words .entry)) (now (numbers .entry))) at (now (buffer .entry)) r (now (buffer .exit)) ⌝ }
+    ensures { λ r. ⌜ Put (textLine (now (words .entry)) (now (numbers .entry))) at (now (buffer .entry)) r (now (buffer .exit)) ⌝ }
 {
     let mut end = put_words(buffer, at, words);
     let mut n = 0;
@@ -55,7 +55,7 @@ pub fn put_rows(buffer: &mut [u8], at: usize, letter: &[u8], table: &[u64], numb
 
 // Puts a row: its letter, its record's own number, and the row's numbers.
 fn put_row(buffer: &mut [u8], at: usize, letter: &[u8], own: u64, numbers: &[u64]) -> usize
-    ensures { λ r. ⌜ Put (line (now (letter .entry)) (own ∷ now (numbers .entry))) at (now (buffer .entry)) r (now (buffer .exit)) ⌝ }
+    ensures { λ r. ⌜ Put (textLine (now (letter .entry)) (own ∷ now (numbers .entry))) at (now (buffer .entry)) r (now (buffer .exit)) ⌝ }
 {
     let at = put_words(buffer, at, letter);
     let at = put_spaced(buffer, at, own);

@@ -1,11 +1,10 @@
 // Pieces of a line: words, and numbers in decimal.
-ghost use Prim.Native.Nat.{suc, _<_, _^_, min};
+ghost use Prim.Native.Nat.{min};
 ghost use mathlib.Core.Path.{_≡_};
 ghost use mathlib.Core.List.{[], _∷_};
-ghost use lib.ListN.{length};
 ghost use Rattle.output.specs.Decimal.{decimal};
 ghost use Rattle.output.specs.Lines.{spaced};
-ghost use Rattle.output.specs.Put.{behind, Put};
+ghost use Rattle.output.specs.Put.{Put};
 
 // No number of 64 bits has more digits in decimal.
 const MOST_DIGITS: usize = 20;
@@ -43,7 +42,7 @@ pub fn put_spaced(buffer: &mut [u8], at: usize, number: u64) -> usize
     put_number(buffer, at, number)
 }
 
-// Puts one byte: nearly every second call puts just a space.
+// Puts one byte.
 pub(crate) fn put_byte(buffer: &mut [u8], at: usize, byte: u8) -> usize
     ensures { λ r. ⌜ Put (byte ∷ []) at (now (buffer .entry)) r (now (buffer .exit)) ⌝ }
 {

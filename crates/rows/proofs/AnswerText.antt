@@ -7,7 +7,7 @@ use lib.ListN.{length, take, drop, length-append}
 use lib.Seq.{take-at}
 use Rattle.fields.specs.declared.answer.Answer.the-variants.{Accepted, Refused}
 use Rattle.fields.specs.declared.answer.Refusal.{Refusal}
-use Rattle.fields.specs.Answers.{Verdict, accepts, said, refusing}
+use Rattle.fields.specs.Answers.{accepts, said, refusing}
 use Rattle.accounts.specs.Order.{Ruling, refusal, accepted, plantNumbers, segmentNumbers}
 use Rattle.period.specs.declared.call.Quantified.{Quantified}
 use Rattle.period.specs.Written.{Lent, rulingOn, rulingVerdict, plantEntries, segmentEntries, overwritten, QuantifyPromise}

@@ -8,8 +8,8 @@ use Rattle.records.specs.Segments.{mostSegments}
 use Rattle.records.specs.Periods.{mostBytes}
 use Rattle.accounts.specs.Order.{plantNumbers, segmentNumbers}
 use Rattle.accounts.proofs.Longer.{longer}
-use Rattle.rows.specs.Printed.{rulingText, printed}
+use Rattle.rows.specs.Printed.{rulingText, printedRows}
 
-pub any-file : (file : List ℕ) (room : ℕ) → mostBytes < room → printed (take room file) ≡ printed file
-unfolding printed
+pub any-file : (file : List ℕ) (room : ℕ) → mostBytes < room → printedRows (take room file) ≡ printedRows file
+unfolding printedRows
 any-file file room more = ap rulingText (longer file room (plantNumbers * mostPlants) (segmentNumbers * mostSegments) more)

@@ -19,12 +19,12 @@ use Rattle.accounts.specs.Order.{lineTests, segmentTests}
 use Rattle.accounts.specs.Quantified.{accountsOf, rows, judged, quantified}
 use Rattle.output.specs.Words.{ascii}
 use Rattle.output.specs.Decimal.{decimalWithin}
-use Rattle.output.specs.Lines.{line, rowsText}
-use Rattle.rows.specs.Printed.{printed}
+use Rattle.output.specs.Lines.{textLine, rowsText}
+use Rattle.rows.specs.Printed.{printedRows}
 
 pub examples :
     -- the whole period
-    (printed
+    (printedRows
     (0x01 ∷ 0x02 ∷ 0x02 ∷ 0x02
     ∷ 0x90 ∷ 0x4E ∷ 0x01 ∷ 0xC0 ∷ 0x84 ∷ 0x3D
     ∷ 0x89 ∷ 0x27 ∷ 0x01 ∷ 0xA0 ∷ 0xF7 ∷ 0x36
@@ -38,12 +38,12 @@ pub examples :
     ++ ascii "S 1 15001 14900 101 268 3\n"
     ++ ascii "S 2 14900 14899 1 0 3\n")
     -- no bytes; a number that is cut; one not in its shortest form; a wrong edition; no plants
-    × (printed [] ≡ ascii "R 1 0\n")
-    × (printed (0x01 ∷ []) ≡ ascii "R 1 1\n")
-    × (printed (0x80 ∷ 0x00 ∷ []) ≡ ascii "R 2 0\n")
-    × (printed (0x02 ∷ []) ≡ ascii "R 4 0\n")
-    × (printed (0x01 ∷ 0x00 ∷ []) ≡ ascii "R 5 1\n")
+    × (printedRows [] ≡ ascii "R 1 0\n")
+    × (printedRows (0x01 ∷ []) ≡ ascii "R 1 1\n")
+    × (printedRows (0x80 ∷ 0x00 ∷ []) ≡ ascii "R 2 0\n")
+    × (printedRows (0x02 ∷ []) ≡ ascii "R 4 0\n")
+    × (printedRows (0x01 ∷ 0x00 ∷ []) ≡ ascii "R 5 1\n")
 unfolding gather value padded reading formed zipWith flatMap classes classAllowed runOf run each reads header plant segment periods.line records period
     periodFile sum chosen gramsOf emission creditsFrom passed turns arrived setOf account plantRows segmentRows testedBy lineTests segmentTests
-    accountsOf rows judged quantified decimalWithin line rowsText printed
+    accountsOf rows judged quantified decimalWithin textLine rowsText printedRows
 examples = (refl, refl, refl, refl, refl, refl)

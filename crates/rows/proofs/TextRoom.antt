@@ -2,7 +2,7 @@
 use Prim.Native.Nat.{ℕ, _+_, _*_, _≤_}
 use Prim.Native.Char.{code}
 use mathlib.Core.Path.{_≡_, refl}
-use mathlib.Core.List.{List, [], _∷_, _++_}
+use mathlib.Core.List.{List, [], _∷_}
 use native.Mathlib.Nat.{le-trans}
 use native.Mathlib.Omega.{arith}
 use lib.ListN.{length, take, length-append}
@@ -13,16 +13,16 @@ use Rattle.accounts.specs.Accepted.{Accepted}
 use Rattle.accounts.proofs.Room.{accepted-room}
 use Rattle.output.specs.Words.{ascii}
 use Rattle.output.specs.Lines.{tableText}
-use Rattle.output.specs.Put.{Put}
+use Rattle.output.specs.Put.{Put, Holds}
 use Rattle.output.proofs.Putting.{put-within, put-whole}
 use Rattle.output.proofs.Room.{line-long, table-long}
-use Rattle.rows.specs.Printed.{rulingText, rulingOnFile, printed, mostText, Answered}
+use Rattle.rows.specs.Printed.{rulingText, rulingOnFile, printedRows, mostRowsText}
 
-pub text-room : (file : List ℕ) → length (printed file) ≤ mostText
-unfolding printed
+pub text-room : (file : List ℕ) → length (printedRows file) ≤ mostRowsText
+unfolding printedRows
 text-room file = by-ruling (rulingOnFile file) refl
   where
-    by-ruling : (ruling : Ruling) → rulingOnFile file ≡ ruling → length (rulingText ruling) ≤ mostText
+    by-ruling : (ruling : Ruling) → rulingOnFile file ≡ ruling → length (rulingText ruling) ≤ mostRowsText
     by-ruling (refusal number place) e = omega (arith, line-long (ascii "R") (number ∷ place ∷ []))
     by-ruling (accepted plants segments) e =
         let given : Accepted file plants segments = record { plantTable = plantNumbers * mostPlants; segmentTable = segmentNumbers * mostSegments; answer = e } in
@@ -31,11 +31,11 @@ text-room file = by-ruling (rulingOnFile file) refl
         let segment-rows = table-long (code "S") segmentNumbers segments mostSegments (omega arith) (room .1) in
         rw (length-append (tableText (ascii "P") plantNumbers plants) (tableText (ascii "S") segmentNumbers segments)) (omega (arith, plant-rows, segment-rows))
 
--- so a file whose text is put at the start of such room is answered
-pub answered :
+-- so room that a file's text is put into, at its start, then holds it
+pub held :
     (room : List ℕ) (bytes : ℕ) {end : ℕ} {room' : List ℕ} → Put (rulingText (rulingOnFile (take bytes room))) 0 room end room' →
-    mostText ≤ length room → Answered (take bytes room) end room'
-unfolding printed
-answered room bytes put enough =
+    mostRowsText ≤ length room → Holds (printedRows (take bytes room)) end room'
+unfolding printedRows
+held room bytes put enough =
     let fits = le-trans (text-room (take bytes room)) enough in
-    record { within = put-within put fits; text = put-whole put fits }
+    record { within = put-within put fits; stands = put-whole put fits }

@@ -1,8 +1,6 @@
 -- What is printed for a period file (01, "One whole period").
-use Prim.Native.Nat.{ℕ, _+_, _*_, _≤_}
-use mathlib.Core.Path.{_≡_}
+use Prim.Native.Nat.{ℕ, _+_, _*_}
 use mathlib.Core.List.{List, _++_}
-use lib.ListN.{length, take}
 use Rattle.records.specs.Plants.{mostPlants}
 use Rattle.records.specs.Segments.{mostSegments}
 use Rattle.accounts.specs.Order.{Ruling, refusal, accepted, plantNumbers, segmentNumbers}
@@ -19,14 +17,9 @@ rulingText (refusal number place) = refusalText number place
 abbrev pub rulingOnFile : List ℕ → Ruling
 rulingOnFile file = quantified file (plantNumbers * mostPlants) (segmentNumbers * mostSegments)
 
-unfoldable pub printed : List ℕ → List ℕ
-printed file = rulingText (rulingOnFile file)
+unfoldable pub printedRows : List ℕ → List ℕ
+printedRows file = rulingText (rulingOnFile file)
 
 -- No more bytes are printed than the rows of the most plants and segments can take.
-abbrev pub mostText : ℕ
-mostText = mostInRows mostPlants plantNumbers + mostInRows mostSegments segmentNumbers
-
--- A file is answered: what stands in the room up to a byte is its text, all of it.
-pub record Answered (file : List ℕ) (end : ℕ) (room : List ℕ) : Type 0 where
-  pub within : end ≤ length room
-  pub text : take end room ≡ printed file
+abbrev pub mostRowsText : ℕ
+mostRowsText = mostInRows mostPlants plantNumbers + mostInRows mostSegments segmentNumbers

@@ -1,7 +1,8 @@
 // The answer to a period file, as text: its rows, or the line of a refused file (01, "One whole period").
 ghost use Prim.Native.Nat.{_≤_};
 ghost use lib.ListN.{length, take};
-ghost use Rattle.rows.specs.Printed.{mostText, Answered};
+ghost use Rattle.output.specs.Put.{Holds};
+ghost use Rattle.rows.specs.Printed.{printedRows, mostRowsText};
 use fields::Answer;
 use output::put_refusal;
 use output::put_rows;
@@ -16,8 +17,8 @@ use records::Segment;
 // refused with 14 or 15.
 pub(crate) fn answer(room: &mut [u8], bytes: usize) -> usize
     requires { ⌜ bytes ≤ length (now room) ⌝ }
-    requires { ⌜ mostText ≤ length (now room) ⌝ }
-    ensures { λ r. ⌜ Answered (take bytes (now (room .entry))) r (now (room .exit)) ⌝ }
+    requires { ⌜ mostRowsText ≤ length (now room) ⌝ }
+    ensures { λ r. ⌜ Holds (printedRows (take bytes (now (room .entry)))) r (now (room .exit)) ⌝ }
 {
     let mut plant_table = [0u64; PLANT_NUMBERS * Plant::MOST];
     let mut segment_table = [0u64; SEGMENT_NUMBERS * Segment::MOST];

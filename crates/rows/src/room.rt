@@ -3,7 +3,7 @@ ghost use Prim.Native.Nat.{_<_};
 ghost use mathlib.Core.Path.{_≡_};
 ghost use lib.ListN.{length};
 ghost use Rattle.records.specs.Periods.{mostBytes};
-ghost use Rattle.rows.specs.Printed.{mostText};
+ghost use Rattle.rows.specs.Printed.{mostRowsText};
 use output::MOST_SPACED;
 use period::PLANT_NUMBERS;
 use period::SEGMENT_NUMBERS;
@@ -23,7 +23,7 @@ const ROOM: usize = Plant::MOST * PLANT_ROW + Segment::MOST * SEGMENT_ROW;
 // Zeros, with room for what is read and for what is printed.
 pub(crate) fn room() -> [u8; ROOM]
     ensures { λ r. ⌜ mostBytes < length r ⌝ }
-    ensures { λ r. ⌜ mostText ≡ length r ⌝ }
+    ensures { λ r. ⌜ mostRowsText ≡ length r ⌝ }
 {
     [0; ROOM]
 }

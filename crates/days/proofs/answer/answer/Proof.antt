@@ -5,7 +5,7 @@ use native.Mathlib.Omega.{arith}
 use lib.Seq.{length-take-le}
 use borrow.Author.Needs.{needs}
 use Rattle.meter.specs.Days.{daysTold}
-use Rattle.days.proofs.TextRoom.{answered}
+use Rattle.days.proofs.TextRoom.{held}
 use Rattle.days.proofs.answer.answer.Statement.{statement}
 use Rattle.days.proofs.answer.answer.Tie as tie
 
@@ -37,7 +37,7 @@ returns : tie.Need-returns
 returns c =
     let told = sym (c .before .before .before .before .before .before .before .days .ensures) ∙ ap daysTold (c .before .before .before .before .before .figures .given .1) in
     let a = c .before .before .before .before .before .before .before .before .before .before in
-    answered (a .args .room .now) (a .args .bytes) (rw told (c .before .before .put-figures .ensures)) (a .pre .1)
+    held (a .args .room .now) (a .args .bytes) (rw told (c .before .before .put-figures .ensures)) (a .pre .1)
 
 same-length-2 : tie.Need-same-length-2
 same-length-2 c = search needs
@@ -46,7 +46,7 @@ returns-2 : tie.Need-returns-2
 returns-2 c =
     let told = sym (c .before .before .before .before .before .before .before .days .ensures) ∙ ap daysTold (c .before .before .before .before .before .refusal .given .1) in
     let a = c .before .before .before .before .before .before .before .before .before .before in
-    answered (a .args .room .now) (a .args .bytes) (rw told (c .before .before .put-refusal .ensures)) (a .pre .1)
+    held (a .args .room .now) (a .args .bytes) (rw told (c .before .before .put-refusal .ensures)) (a .pre .1)
 
 pub answer-spec : {M : Type 1} → statement M
 answer-spec =

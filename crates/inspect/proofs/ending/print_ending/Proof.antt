@@ -1,13 +1,14 @@
 -- `inspect::ending::print_ending` is safe and ends: there is room for the text. Assumes nothing.
 use Prim.Native.Nat.{_≤_}
 use mathlib.Core.Path.{sym}
-use native.Mathlib.Nat.{le-trans}
+use native.Mathlib.Omega.{arith}
 use lib.ListN.{length}
 use lib.Seq.{length-take-le}
 use denote.Ref.{now}
 use borrow.Author.Needs.{needs}
-use Rattle.output.proofs.Putting.{put-within}
-use Rattle.inspect.specs.Page.{pageEnd}
+use Rattle.output.proofs.Putting.{put-length}
+use Rattle.output.proofs.Room.{put-near}
+use Rattle.inspect.specs.Page.{mostPageText}
 use Rattle.inspect.proofs.TextRoom.{end-room}
 use Rattle.inspect.proofs.ending.print_ending.Statement.{statement}
 use Rattle.inspect.proofs.ending.print_ending.Tie as tie
@@ -17,8 +18,9 @@ within : (c : tie.After-print-arg) → c .before .before .before .put-ending .re
 within c =
     let s = c .before .before .before .before .before .before .before in
     let a = s .args in
-    let room = end-room (now (a .file)) (a .cut) (a .place) (a .at) (a .field) in
-    put-within {text = pageEnd (now (a .file)) (a .cut) (a .place) (a .at) (a .field)} (c .before .before .before .put-ending .ensures) (le-trans room (s .pre))
+    let put = c .before .before .before .put-ending .ensures in
+    let room = end-room (now (a .file)) (a .cut) (a .at .place) (a .at .byte) (a .field) in
+    omega (arith, put-near mostPageText put room, put-length put, s .pre)
 
 -- ---- the needs
 put-ending-requires : tie.Need-put-ending-requires

@@ -37,15 +37,15 @@ same-length c = search needs
 
 returns : tie.Need-returns
 returns c =
-    let a = c .before .before .before .before .before .before .before .before .before .before .before .before .before .before .before .before .before .before .args in
-    let step = c .before .before .before .before .before .before .before .before .before .before .before .before .before .before .before .step-at in
-    let reading = c .before .before .before .before .before .before .before .before .before .before .before .before .before .before .read in
+    let a = c .before .before .before .before .before .before .before .before .before .before .before .before .before .before .before .before .before .before .before .args in
+    let step = c .before .before .before .before .before .before .before .before .before .before .before .before .before .before .before .before .step-at in
+    let reading = c .before .before .before .before .before .before .before .before .before .before .before .before .before .before .before .read in
     let text =
     page-end
     (now (a .file))
     (a .cut)
-    (a .place)
-    (a .at)
+    (a .at .place)
+    (a .at .byte)
     (a .field)
     (step .result .found)
     (reading .result .answer)

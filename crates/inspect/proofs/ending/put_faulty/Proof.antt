@@ -23,7 +23,9 @@ same-length : tie.Need-same-length
 same-length c = search needs
 
 returns : tie.Need-returns
-returns c = put-then (put-then (put-then (c .before .before .before .before .before .before .before .before .before .before .before .before .before .before .before .put-number .ensures) (c .before .before .before .before .before .before .before .before .before .before .before .put-spaced .ensures)) (c .before .before .before .before .before .before .put-words .ensures)) (c .before .before .put-field .ensures)
+returns c =
+    let numbers = put-then (c .before .before .before .before .before .before .before .before .before .before .before .before .before .before .before .put-number .ensures) (c .before .before .before .before .before .before .before .before .before .before .before .put-spaced .ensures) in
+    put-then (put-then numbers (c .before .before .before .before .before .before .put-words .ensures)) (c .before .before .put-field .ensures)
 
 pub put-faulty-spec : {M : Type 1} → statement M
 put-faulty-spec =

@@ -1,43 +1,60 @@
--- `inspect::page::print_page` is safe and ends: each number that a step finds leaves fewer bytes, a place is never past its byte, and the room for
--- text keeps its length. Assumes nothing.
-use Prim.Native.Nat.{_≤_, _-_}
-use mathlib.Core.Path.{_≡_}
+-- `inspect::page::print_page` is safe and ends: each number that a step finds leaves fewer bytes, a place is never past its byte, and behind the
+-- lines that wait there is room for the longest text. Assumes nothing.
+use Prim.Native.Nat.{_+_, _-_, _≤_}
+use mathlib.Core.Path.{_≡_, sym}
+use mathlib.Core.Logic.{⊎-elim}
 use native.Mathlib.Omega.{arith}
 use lib.ListN.{length}
+use lib.Seq.{length-take-le}
 use denote.Ref.{now}
 use borrow.Author.Needs.{needs}
 use Rattle.number.proofs.Laws.{Bounds}
 use Rattle.inspector.proofs.Steps.{moves-on}
+use Rattle.output.proofs.Putting.{put-length}
+use Rattle.output.proofs.Room.{put-near}
+use Rattle.inspect.specs.Page.{mostPageText}
+use Rattle.inspect.proofs.TextRoom.{number-room}
 use Rattle.inspect.proofs.page.print_page.Statement.{statement}
 use Rattle.inspect.proofs.page.print_page.Tie as tie
 
 abbrev Inv-loop : tie.InvT-loop
-Inv-loop room₀ file cut header place₀ at₀ room place at = (place ≤ at) × (at ≤ length file) × (length room ≡ length room₀)
+Inv-loop room₀ file cut header end₀ place₀ at₀ t12 room end place at =
+    (place ≤ at) × (at ≤ length file) × (length room ≡ length room₀) × (end + mostPageText ≤ length room)
 
 abbrev μ-loop : tie.MeasureT-loop
-μ-loop room₀ file cut header place₀ at₀ room place at = length file - at
+μ-loop room₀ file cut header end₀ place₀ at₀ t12 room end place at = length file - at
 
--- ---- what is known when a step has found a number
-abbrev Found : Type 0
-Found = tie.Else1 Inv-loop μ-loop
+-- ---- what is known when the line of a number is put
+abbrev Put-line : Type 0
+Put-line = tie.After-slice-known3 Inv-loop μ-loop
 
 moved :
-    (c : Found) →
-    Bounds (now (c .before .before .before .before .before .before .before .before .before .before .before .before .before .before .args .file))
-    (c .before .before .before .before .before .before .before .before .before .before .loop .at)
-    (c .before .before .before .before .before .before .found .given .0 .0)
-    (c .before .before .before .before .before .before .before .before .before .step-at .result .at)
+    (c : Put-line) →
+    Bounds (now (c .before .before .before .before .before .before .before .before .before .before .before .before .before .args .file))
+    (c .before .before .before .before .before .before .before .before .before .loop .at)
+    (c .before .before .before .before .before .found .given .0 .0)
+    (c .before .before .before .before .before .before .before .before .step-at .result .at)
 moved c =
-    let found = c .before .before .before .before .before .before .found .given in
-    let step = c .before .before .before .before .before .before .before .before .before .step-at in
+    let found = c .before .before .before .before .before .found .given in
+    let step = c .before .before .before .before .before .before .before .before .step-at in
     moves-on
-    (now (c .before .before .before .before .before .before .before .before .before .before .before .before .before .before .args .file))
-    (c .before .before .before .before .before .before .before .before .before .before .loop .at)
+    (now (c .before .before .before .before .before .before .before .before .before .before .before .before .before .args .file))
+    (c .before .before .before .before .before .before .before .before .before .loop .at)
     (found .0 .0)
     (found .0 .1 .0)
     (step .result)
     (step .ensures)
     (found .1)
+
+-- the line ends within the room, which keeps its length
+as-long : (c : Put-line) → length (c .before .before .put-number-line .last .0) ≡ length (c .before .before .before .before .before .before .before .before .before .loop .room)
+as-long c = put-length (c .before .before .put-number-line .ensures)
+
+within : (c : Put-line) → c .before .before .put-number-line .result ≤ length (c .before .before .put-number-line .last .0)
+within c =
+    let l = c .before .before .before .before .before .before .before .before .before .loop in
+    let line = number-room (l .place) (l .at) (c .before .before .before .before .before .found .given .0 .0) (c .before .before .before .before .before .before .before .field-at .result) in
+    omega (arith, put-near mostPageText (c .before .before .put-number-line .ensures) line, as-long c, l .inv .3)
 
 -- ---- the needs
 header-of-requires : tie.Need-header-of-requires Inv-loop μ-loop
@@ -56,7 +73,7 @@ enum-known-found : tie.Need-enum-known-found Inv-loop μ-loop
 enum-known-found c = search needs
 
 print-ending-requires : tie.Need-print-ending-requires Inv-loop μ-loop
-print-ending-requires c κs = omega arith
+print-ending-requires c κs = c .before .before .before .before .loop .inv .3
 
 same-length : tie.Need-same-length Inv-loop μ-loop
 same-length c = omega arith
@@ -64,23 +81,46 @@ same-length c = omega arith
 returns : tie.Need-returns Inv-loop μ-loop
 returns c = search needs
 
-print-line-requires : tie.Need-print-line-requires Inv-loop μ-loop
-print-line-requires c κs = omega arith
+put-number-line-requires : tie.Need-put-number-line-requires Inv-loop μ-loop
+put-number-line-requires c κs = search needs
+
+sub-if1 : tie.Need-sub-if1 Inv-loop μ-loop
+sub-if1 c = within c
+
+slice-aggregate-print : tie.Need-slice-aggregate-print Inv-loop μ-loop
+slice-aggregate-print c = search needs
+
+slice-reshare-prefix-print : tie.Need-slice-reshare-prefix-print Inv-loop μ-loop
+slice-reshare-prefix-print c = within (c .before .before)
+
+slice-aggregate-print-2 : tie.Need-slice-aggregate-print-2 Inv-loop μ-loop
+slice-aggregate-print-2 c = sym (length-take-le _ _ (within (c .before .before .before)))
+
+print-requires : tie.Need-print-requires Inv-loop μ-loop
+print-requires c κs = search needs
 
 same-length-2 : tie.Need-same-length-2 Inv-loop μ-loop
-same-length-2 c = omega arith
+same-length-2 c = omega (arith, as-long (c .before .before .before .before .before))
 
 returns-2 : tie.Need-returns-2 Inv-loop μ-loop
 returns-2 c = search needs
 
 add-place : tie.Need-add-place Inv-loop μ-loop
-add-place c = omega (arith, moved c .later, moved c .inside)
+add-place c = omega (arith, moved (c .before) .later, moved (c .before) .inside)
 
 loop-less : tie.Need-loop-less Inv-loop μ-loop
-loop-less c = omega (arith, moved c .later, moved c .inside)
+loop-less c = omega (arith, moved (c .before) .later, moved (c .before) .inside)
 
 loop-again : tie.Need-loop-again Inv-loop μ-loop
-loop-again c = omega (arith, moved c .later, moved c .inside)
+loop-again c = (
+  omega (arith, moved (c .before) .later, moved (c .before) .inside),
+  omega (arith, moved (c .before) .inside),
+  omega (arith, as-long (c .before)),
+  ⊎-elim
+      (λ printed. omega (arith, printed .5, as-long (c .before), c .before .before .before .before .before .before .before .before .before .before .loop .inv .3))
+      (λ waits. omega (arith, waits .0 .left, waits .1, within (c .before)))
+      (c .if1 .came),
+)
 
 pub print-page-spec : {M : Type 1} → statement M
 print-page-spec =
@@ -96,7 +136,12 @@ print-page-spec =
     print-ending-requires
     same-length
     returns
-    print-line-requires
+    put-number-line-requires
+    sub-if1
+    slice-aggregate-print
+    slice-reshare-prefix-print
+    slice-aggregate-print-2
+    print-requires
     same-length-2
     returns-2
     add-place

@@ -47,31 +47,45 @@ same-length : tie.Need-same-length
 same-length c = search needs
 
 returns : tie.Need-returns
-returns c = let its : c .before .before .before .before .before .before .before .before .before .before .before .before .args .field ≡ 0 = omega arith in rw its (put-then (c .before .before .before .before .before .before .before .before .put-record .ensures) (c .before .before .put-words .ensures))
+returns c =
+    let put = put-then (c .before .before .before .before .before .before .before .before .put-record .ensures) (c .before .before .put-words .ensures) in
+    let its : c .before .before .before .before .before .before .before .before .before .before .before .before .args .field ≡ 0 = omega arith in
+    rw its put
 
 same-length-2 : tie.Need-same-length-2
 same-length-2 c = search needs
 
 returns-2 : tie.Need-returns-2
-returns-2 c = let its : c .before .before .before .before .before .before .before .before .before .before .before .before .args .field ≡ 1 = omega arith in rw its (put-then (c .before .before .before .before .before .before .before .before .put-record .ensures) (c .before .before .put-words2 .ensures))
+returns-2 c =
+    let put = put-then (c .before .before .before .before .before .before .before .before .put-record .ensures) (c .before .before .put-words2 .ensures) in
+    let its : c .before .before .before .before .before .before .before .before .before .before .before .before .args .field ≡ 1 = omega arith in
+    rw its put
 
 same-length-3 : tie.Need-same-length-3
 same-length-3 c = search needs
 
 returns-3 : tie.Need-returns-3
-returns-3 c = let its : c .before .before .before .before .before .before .before .before .before .before .before .before .args .field ≡ 2 = omega arith in rw its (put-then (c .before .before .before .before .before .before .before .before .put-record .ensures) (c .before .before .put-words3 .ensures))
+returns-3 c =
+    let put = put-then (c .before .before .before .before .before .before .before .before .put-record .ensures) (c .before .before .put-words3 .ensures) in
+    let its : c .before .before .before .before .before .before .before .before .before .before .before .before .args .field ≡ 2 = omega arith in
+    rw its put
 
 same-length-4 : tie.Need-same-length-4
 same-length-4 c = search needs
 
 returns-4 : tie.Need-returns-4
-returns-4 c = let its : c .before .before .before .before .before .before .before .before .before .before .before .before .args .field ≡ 3 = omega arith in rw its (put-then (c .before .before .before .before .before .before .before .before .put-record .ensures) (c .before .before .put-words4 .ensures))
+returns-4 c =
+    let put = put-then (c .before .before .before .before .before .before .before .before .put-record .ensures) (c .before .before .put-words4 .ensures) in
+    let its : c .before .before .before .before .before .before .before .before .before .before .before .before .args .field ≡ 3 = omega arith in
+    rw its put
 
 same-length-5 : tie.Need-same-length-5
 same-length-5 c = search needs
 
 returns-5 : tie.Need-returns-5
-returns-5 c = rw (line-last (c .before .before .before .before .before .before .before .before .before .before .before .before .args .field) (omega arith)) (put-then (c .before .before .before .before .before .before .before .before .put-record .ensures) (c .before .before .put-words5 .ensures))
+returns-5 c =
+    let put = put-then (c .before .before .before .before .before .before .before .before .put-record .ensures) (c .before .before .put-words5 .ensures) in
+    rw (line-last (c .before .before .before .before .before .before .before .before .before .before .before .before .args .field) (omega arith)) put
 
 pub put-line-field-spec : {M : Type 1} → statement M
 put-line-field-spec =

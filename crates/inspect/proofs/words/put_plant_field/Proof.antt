@@ -35,19 +35,27 @@ same-length : tie.Need-same-length
 same-length c = search needs
 
 returns : tie.Need-returns
-returns c = let its : c .before .before .before .before .before .before .before .before .before .before .before .before .args .field ≡ 0 = omega arith in rw its (put-then (c .before .before .before .before .before .before .before .before .put-record .ensures) (c .before .before .put-words .ensures))
+returns c =
+    let put = put-then (c .before .before .before .before .before .before .before .before .put-record .ensures) (c .before .before .put-words .ensures) in
+    let its : c .before .before .before .before .before .before .before .before .before .before .before .before .args .field ≡ 0 = omega arith in
+    rw its put
 
 same-length-2 : tie.Need-same-length-2
 same-length-2 c = search needs
 
 returns-2 : tie.Need-returns-2
-returns-2 c = let its : c .before .before .before .before .before .before .before .before .before .before .before .before .args .field ≡ 1 = omega arith in rw its (put-then (c .before .before .before .before .before .before .before .before .put-record .ensures) (c .before .before .put-words2 .ensures))
+returns-2 c =
+    let put = put-then (c .before .before .before .before .before .before .before .before .put-record .ensures) (c .before .before .put-words2 .ensures) in
+    let its : c .before .before .before .before .before .before .before .before .before .before .before .before .args .field ≡ 1 = omega arith in
+    rw its put
 
 same-length-3 : tie.Need-same-length-3
 same-length-3 c = search needs
 
 returns-3 : tie.Need-returns-3
-returns-3 c = rw (plant-last (c .before .before .before .before .before .before .before .before .before .before .before .before .args .field) (omega arith)) (put-then (c .before .before .before .before .before .before .before .before .put-record .ensures) (c .before .before .put-words3 .ensures))
+returns-3 c =
+    let put = put-then (c .before .before .before .before .before .before .before .before .put-record .ensures) (c .before .before .put-words3 .ensures) in
+    rw (plant-last (c .before .before .before .before .before .before .before .before .before .before .before .before .args .field) (omega arith)) put
 
 pub put-plant-field-spec : {M : Type 1} → statement M
 put-plant-field-spec =

@@ -4,7 +4,7 @@ use mathlib.Core.List.{flatMap}
 use native.Mathlib.Omega.{arith}
 use lib.ListN.{length, take}
 use borrow.Author.Needs.{needs}
-use Rattle.output.specs.Lines.{allSpaced, line}
+use Rattle.output.specs.Lines.{allSpaced, textLine}
 use Rattle.output.specs.Put.{Put}
 use Rattle.output.proofs.Putting.{put-length, put-nothing, put-then}
 use Rattle.output.proofs.LineByLine.{number-more, numbers-all}
@@ -49,7 +49,7 @@ put-byte-requires : tie.Need-put-byte-requires Inv-loop μ-loop
 put-byte-requires c κs = search needs
 
 returns : tie.Need-returns Inv-loop μ-loop
-unfolding line
+unfolding textLine
 returns c =
     let numbers = numbers-all (c .before .before .before .before .before .before .before .before .before .before .before .before .before .args .numbers .now) (c .before .before .before .before .before .loop .n) (omega arith) (c .before .before .before .before .before .loop .inv .1) in
     put-then (put-then (c .before .before .before .before .before .before .before .before .put-words .ensures) numbers) (c .before .before .put-byte .ensures)

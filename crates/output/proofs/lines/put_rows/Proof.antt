@@ -20,9 +20,9 @@ abbrev μ-loop : tie.MeasureT-loop
 
 -- ---- what is known when a row is due
 inside :
-    (c : tie.After-put-row-arg Inv-loop μ-loop) →
-    c .before .before .before .before .before .before .before .before .before .before .before .before .args .numbers * c .before .before .loop .row + c .before .before .before .before .before .before .before .before .before .before .before .before .args .numbers ≤ length (c .before .before .before .before .before .before .before .before .before .before .before .before .args .table .now)
-inside c = row-within (length (c .before .before .before .before .before .before .before .before .before .before .before .before .args .table .now)) (c .before .before .before .before .before .before .before .before .before .before .before .before .args .numbers) (c .before .before .loop .row) (omega arith)
+    (c : tie.After-put-row-arg Inv-loop μ-loop) → let a = c .before .before .before .before .before .before .before .before .before .before .before .before .args in
+    a .numbers * c .before .before .loop .row + a .numbers ≤ length (a .table .now)
+inside c = let a = c .before .before .before .before .before .before .before .before .before .before .before .before .args in row-within (length (a .table .now)) (a .numbers) (c .before .before .loop .row) (omega arith)
 
 -- ---- the needs
 rows-in-requires : tie.Need-rows-in-requires Inv-loop μ-loop
@@ -39,7 +39,9 @@ unfolding rowsText
 loop-holds c = (omega arith, put-nothing (c .before .before .put-words .ensures))
 
 mul-first : tie.Need-mul-first Inv-loop μ-loop
-mul-first c = omega (arith, row-within (length (c .before .before .before .before .before .before .before .before .before .before .before .args .table .now)) (c .before .before .before .before .before .before .before .before .before .before .before .args .numbers) (c .before .loop .row) (omega arith))
+mul-first c =
+    let a = c .before .before .before .before .before .before .before .before .before .before .before .args in
+    omega (arith, row-within (length (a .table .now)) (a .numbers) (c .before .loop .row) (omega arith))
 
 add-put-row : tie.Need-add-put-row Inv-loop μ-loop
 add-put-row c = omega arith

@@ -6,7 +6,7 @@ use lib.Seq.{length-take-le}
 use borrow.Author.Needs.{needs}
 use Rattle.output.proofs.Putting.{put-then}
 use Rattle.rows.proofs.AnswerText.{plants-within, segments-within, told-refused, told-accepted}
-use Rattle.rows.proofs.TextRoom.{answered}
+use Rattle.rows.proofs.TextRoom.{held}
 use Rattle.rows.proofs.answer.answer.Statement.{statement}
 use Rattle.rows.proofs.answer.answer.Tie as tie
 
@@ -36,9 +36,10 @@ same-length c = search needs
 
 returns : tie.Need-returns
 returns c =
+    let start = c .before .before .before .before .before .before .before .before .before .before .before .before .before .before in
     let refused = c .before .before .before .before .before .answer .given in
     let line = told-refused (c .before .before .before .before .before .before .before .before .before .quantify .ensures) (refused .0 .0) (refused .1) in
-    answered (c .before .before .before .before .before .before .before .before .before .before .before .before .before .before .args .room .now) (c .before .before .before .before .before .before .before .before .before .before .before .before .before .before .args .bytes) (rw line (c .before .before .put-refusal .ensures)) (c .before .before .before .before .before .before .before .before .before .before .before .before .before .before .pre .1)
+    held (start .args .room .now) (start .args .bytes) (rw line (c .before .before .put-refusal .ensures)) (start .pre .1)
 
 enum-told : tie.Need-enum-told
 enum-told c = search needs
@@ -72,9 +73,11 @@ same-length-2 c = search needs
 
 returns-2 : tie.Need-returns-2
 returns-2 c =
-    let rows = told-accepted (c .before .before .before .before .before .before .before .before .before .before .before .before .before .before .before .before .quantify .ensures) (c .before .before .before .before .before .before .before .before .before .before .before .before .enum-told .given .1) in
+    let start = c .before .before .before .before .before .before .before .before .before .before .before .before .before .before .before .before .before .before .before .before .before in
+    let told = c .before .before .before .before .before .before .before .before .before .before .before .before .enum-told .given .1 in
+    let rows = told-accepted (c .before .before .before .before .before .before .before .before .before .before .before .before .before .before .before .before .quantify .ensures) told in
     let put = put-then (c .before .before .before .before .before .before .before .before .put-rows .ensures) (c .before .before .put-rows2 .ensures) in
-    answered (c .before .before .before .before .before .before .before .before .before .before .before .before .before .before .before .before .before .before .before .before .before .args .room .now) (c .before .before .before .before .before .before .before .before .before .before .before .before .before .before .before .before .before .before .before .before .before .args .bytes) (rw rows put) (c .before .before .before .before .before .before .before .before .before .before .before .before .before .before .before .before .before .before .before .before .before .pre .1)
+    held (start .args .room .now) (start .args .bytes) (rw rows put) (start .pre .1)
 
 pub answer-spec : {M : Type 1} → statement M
 answer-spec =

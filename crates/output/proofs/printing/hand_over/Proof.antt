@@ -1,16 +1,16 @@
--- `output::printing::print` meets its contract and ends: each turn leaves less of the text, and what is taken lies within it. Assumes nothing.
+-- `output::printing::hand_over` meets its contract and ends: each turn leaves less of the text, and what is taken lies within it. Assumes nothing.
 use Prim.Native.Nat.{_≤_, _-_}
 use native.Mathlib.Omega.{arith}
 use lib.ListN.{length}
 use borrow.Author.Needs.{needs}
-use Rattle.output.proofs.printing.print.Statement.{statement}
-use Rattle.output.proofs.printing.print.Tie as tie
+use Rattle.output.proofs.printing.hand_over.Statement.{statement}
+use Rattle.output.proofs.printing.hand_over.Tie as tie
 
 abbrev Inv-loop : tie.InvT-loop
-Inv-loop program text taken₀ taken = taken ≤ length text
+Inv-loop descriptor text taken₀ taken = taken ≤ length text
 
 abbrev μ-loop : tie.MeasureT-loop
-μ-loop program text taken₀ taken = length text - taken
+μ-loop descriptor text taken₀ taken = length text - taken
 
 loop-holds : tie.Need-loop-holds Inv-loop μ-loop
 loop-holds c = omega arith
@@ -30,9 +30,6 @@ write-requires c κs = search needs
 count-requires : tie.Need-count-requires Inv-loop μ-loop
 count-requires c κs = search needs
 
-say-unwritten-requires : tie.Need-say-unwritten-requires Inv-loop μ-loop
-say-unwritten-requires c κs = search needs
-
 returns : tie.Need-returns Inv-loop μ-loop
 returns c = omega arith
 
@@ -48,8 +45,8 @@ loop-again c = omega arith
 returns-2 : tie.Need-returns-2 Inv-loop μ-loop
 returns-2 c = omega arith
 
-pub print-spec : {M : Type 1} → statement M
-print-spec =
+pub hand-over-spec : {M : Type 1} → statement M
+hand-over-spec =
     tie.close
     (tie.spec
     Inv-loop
@@ -60,7 +57,6 @@ print-spec =
     part-left-end
     write-requires
     count-requires
-    say-unwritten-requires
     returns
     add-taken
     loop-less
