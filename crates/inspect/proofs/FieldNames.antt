@@ -1,13 +1,14 @@
 -- The words for the last field of a record, which stand for all fields from it on; and how long a field's words are at most.
-use Prim.Native.Nat.{ℕ, zero, suc, _≤_, _<_}
+use Prim.Native.Nat.{ℕ, zero, suc, _+_, _≤_, _<_}
 use mathlib.Core.Path.{_≡_, refl}
 use native.Mathlib.Omega.{arith}
 use lib.ListN.{length, length-append}
 use Rattle.inspector.specs.declared.field.Field.{Field}
 use Rattle.inspector.specs.declared.field.Field.the-variants.{Header, Plant, Segment, Line, After, Untold}
 use Rattle.output.specs.Words.{ascii}
+use Rattle.output.specs.Lines.{mostSpaced}
 use Rattle.output.proofs.Room.{spaced-long}
-use Rattle.inspect.specs.FieldWords.{headerWords, plantWords, segmentWords, lineWords, fieldText, mostFieldText}
+use Rattle.inspect.specs.FieldWords.{headerWords, plantWords, segmentWords, lineWords, fieldText, mostFieldWords}
 
 -- ---- the last field
 pub header-last : (field : ℕ) → 2 < field → headerWords field ≡ ascii " lines\n"
@@ -34,6 +35,10 @@ line-last (suc (suc (suc zero))) more = absurd (omega arith)
 line-last (suc (suc (suc (suc field)))) more = refl
 
 -- ---- how long
+-- no words of a field are longer, with its record's number among them
+abbrev pub mostFieldText : ℕ
+mostFieldText = mostSpaced + mostFieldWords
+
 -- the words of a header's field, and what stands behind a record's number
 header-long : (field : ℕ) → length (headerWords field) ≤ mostFieldText
 header-long zero = omega arith

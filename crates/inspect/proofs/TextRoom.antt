@@ -17,9 +17,8 @@ use Rattle.output.proofs.Decimals.{decimal-long}
 use Rattle.output.proofs.Room.{spaced-long, line-long}
 use Rattle.inspect.specs.declared.ending.Stop.{Stop}
 use Rattle.inspect.specs.declared.ending.Stop.the-variants.{Fault, End, Cut}
-use Rattle.inspect.specs.FieldWords.{mostFieldText}
 use Rattle.inspect.specs.Page.{numberLine, verdictText, stopOf, stoppedAt, stopLine, pageEnd, mostPageText}
-use Rattle.inspect.proofs.FieldNames.{field-long}
+use Rattle.inspect.proofs.FieldNames.{mostFieldText, field-long}
 
 pub number-room : (place at value : ℕ) (field : Field) → length (numberLine place at value field) ≤ mostPageText
 number-room place at value field =

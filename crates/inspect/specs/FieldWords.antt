@@ -1,10 +1,10 @@
 -- The words for a field, as 01 names it, up to the end of the line.
-use Prim.Native.Nat.{ℕ, zero, suc, _+_}
+use Prim.Native.Nat.{ℕ, zero, suc}
 use mathlib.Core.List.{List, _++_}
 use Rattle.inspector.specs.declared.field.Field.{Field}
 use Rattle.inspector.specs.declared.field.Field.the-variants.{Header, Plant, Segment, Line, After, Untold}
 use Rattle.output.specs.Words.{ascii}
-use Rattle.output.specs.Lines.{mostSpaced, spaced}
+use Rattle.output.specs.Lines.{spaced}
 
 -- ---- the fields of a record, from 0 on; the last name is for all that are left
 abbrev pub headerWords : ℕ → List ℕ
@@ -49,6 +49,6 @@ fieldText (Line number field) = lineText number field
 fieldText After = ascii " after the last number\n"
 fieldText Untold = ascii " not told by the header\n"
 
--- No words of a field are longer, with its record's number among them.
-abbrev pub mostFieldText : ℕ
-mostFieldText = mostSpaced + 25
+-- No words of a field are longer, without its record's number.
+abbrev pub mostFieldWords : ℕ
+mostFieldWords = 25

@@ -16,7 +16,7 @@ use Rattle.output.specs.Decimal.{decimal}
 use Rattle.output.specs.Lines.{mostSpaced, spaced, textLine, refusalText}
 use Rattle.inspect.specs.declared.ending.Stop.{Stop}
 use Rattle.inspect.specs.declared.ending.Stop.the-variants.{Fault, End, Cut}
-use Rattle.inspect.specs.FieldWords.{fieldText, mostFieldText}
+use Rattle.inspect.specs.FieldWords.{fieldText, mostFieldWords}
 
 -- The line of a number: its place, its byte, its value and its field.
 abbrev pub numberLine : (place at value : ℕ) → Field → List ℕ
@@ -58,6 +58,15 @@ pageEnd file cut place at field =
     ++ verdictText (readVerdict (periodFile file))
     ++ stopLine stop (refusalOf (readAt file at)) place at
 
--- No text that is printed at a time is longer: the lines of a fault.
+-- ---- how long a page's text is at most
+-- The longest is that of a fault. Its numbers: the record's, place and byte in its line, and two in each of the lettered lines.
+abbrev pub faultNumbers : ℕ
+faultNumbers = 7
+
+-- The letters and the ends of these two lines, and the sign for a value that is not there.
+abbrev pub faultSigns : ℕ
+faultSigns = 6
+
+-- No line of a page is longer, nor are the lines at its end together.
 abbrev pub mostPageText : ℕ
-mostPageText = mostFieldText + mostSpaced * 6 + 6
+mostPageText = mostFieldWords + mostSpaced * faultNumbers + faultSigns

@@ -9,13 +9,13 @@ const FIELD_WORDS: usize = 25;
 
 // The numbers of the longest text, that of a fault: the record's, place and byte in its line, and two in
 // each of the two lettered lines.
-const NUMBERS: usize = 7;
+const FAULT_NUMBERS: usize = 7;
 
 // The letters and the ends of these two lines, and the sign for a value that is not there.
-const SIGNS: usize = 6;
+const FAULT_SIGNS: usize = 6;
 
 // No line of a page is longer, nor are the lines at its end together.
-pub(crate) const MOST_TEXT: usize = FIELD_WORDS + MOST_SPACED * NUMBERS + SIGNS;
+pub(crate) const MOST_TEXT: usize = FIELD_WORDS + MOST_SPACED * FAULT_NUMBERS + FAULT_SIGNS;
 
 // How many of the longest texts there is room for: so many lines and more are printed at a time.
 const TEXTS: usize = 10;

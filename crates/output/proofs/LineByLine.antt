@@ -40,7 +40,7 @@ module _ {at : ℕ} {buffer : List ℕ} {end : ℕ} {buffer' : List ℕ} where
   numbers-all numbers n all past = rw (take-all n numbers all) at past
 
 -- ---- a row
--- Its letter, its owns number and a line of its numbers are one line.
+-- Its letter, its record's own number and a line of its numbers are one line.
 pub row-line : (letter : List ℕ) (own : ℕ) (numbers : List ℕ) → letter ++ spaced own ++ textLine [] numbers ≡ textLine letter (own ∷ numbers)
 unfolding flatMap textLine
 row-line letter own numbers = simp append-assoc

@@ -4,7 +4,7 @@ use mathlib.Core.List.{List, [], _∷_, flatMap}
 use native.Mathlib.Nat.{le-trans, mul-comm, suc-mul, mul-le-mul-right, div-lt-iff-lt-mul}
 use native.Mathlib.Omega.{arith}
 use lib.ListN.{length, take, drop, length-append, length-take}
-use Rattle.output.specs.Lines.{spaced, mostSpaced, allSpaced, textLine, rowText, rowsText, tableText, mostInRows}
+use Rattle.output.specs.Lines.{spaced, mostSpaced, allSpaced, textLine, rowText, rowsText, tableText, rowSigns, mostInRows}
 use Rattle.output.specs.Put.{Put}
 use Rattle.output.proofs.Decimals.{decimal-long}
 
@@ -24,7 +24,7 @@ unfolding textLine
 line-long words numbers = simp length-append (omega (arith, all-spaced-long numbers))
 
 -- ---- the rows of a table, behind a letter
-row-long : (letter : ℕ) (numbers : ℕ) (table : List ℕ) (index : ℕ) → length (rowText (letter ∷ []) numbers table index) ≤ 2 + mostSpaced * suc numbers
+row-long : (letter : ℕ) (numbers : ℕ) (table : List ℕ) (index : ℕ) → length (rowText (letter ∷ []) numbers table index) ≤ rowSigns + mostSpaced * suc numbers
 row-long letter numbers table index =
     let row = take numbers (drop (numbers * index) table) in
     omega (arith, line-long (letter ∷ []) (suc index ∷ row), length-take numbers (drop (numbers * index) table))
@@ -42,7 +42,7 @@ pub table-long :
     length (tableText (letter ∷ []) numbers table) ≤ mostInRows most numbers
 table-long letter numbers table most some few =
     let rows : length table / numbers < suc most = div-lt-iff-lt-mul some .1 (omega (arith, suc-mul most numbers, mul-comm most numbers)) in
-    le-trans (rows-long letter numbers table (length table / numbers)) (mul-le-mul-right (2 + mostSpaced * suc numbers) (omega (arith, rows)))
+    le-trans (rows-long letter numbers table (length table / numbers)) (mul-le-mul-right (rowSigns + mostSpaced * suc numbers) (omega (arith, rows)))
 
 -- ---- where text ends
 -- no more than so many bytes on

@@ -45,6 +45,9 @@ rowsText letter numbers table (suc count) = rowsText letter numbers table count 
 abbrev pub tableText : (letter : List ℕ) (numbers : ℕ) → List ℕ → List ℕ
 tableText letter numbers table = rowsText letter numbers table (length table / numbers)
 
--- how many bytes the rows of so many records take at most, behind a letter
+-- How many bytes the rows of so many records take at most: a letter and the end of the line, and the numbers behind that of the record.
+abbrev pub rowSigns : ℕ
+rowSigns = 2
+
 abbrev pub mostInRows : (count numbers : ℕ) → ℕ
-mostInRows count numbers = count * (2 + mostSpaced * suc numbers)
+mostInRows count numbers = count * (rowSigns + mostSpaced * suc numbers)

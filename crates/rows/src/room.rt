@@ -10,10 +10,13 @@ use period::SEGMENT_NUMBERS;
 use records::Plant;
 use records::Segment;
 
-// A row's letter and the end of its line, and its numbers behind that of its record.
-const PLANT_ROW: usize = 2 + MOST_SPACED * (1 + PLANT_NUMBERS);
+// A row's letter and the end of its line.
+const ROW_SIGNS: usize = 2;
 
-const SEGMENT_ROW: usize = 2 + MOST_SPACED * (1 + SEGMENT_NUMBERS);
+// With these, a row's numbers behind that of its record.
+const PLANT_ROW: usize = ROW_SIGNS + MOST_SPACED * (1 + PLANT_NUMBERS);
+
+const SEGMENT_ROW: usize = ROW_SIGNS + MOST_SPACED * (1 + SEGMENT_NUMBERS);
 
 // The rows of as many plants and segments as a period can have; a refusal's line is shorter. This is
 // more than the longest file has: so a file that goes on is seen to, and no byte that is not read can
