@@ -85,5 +85,5 @@ fn print_front(text: &[u8], end: usize) -> bool {
         complain(b"cases", b"a line is longer than there is room for");
         return false;
     }
-    print(b"cases", &text[..end]) == end
+    print(b"cases", &text[..end]).len() == end
 }

@@ -6,24 +6,18 @@ use native.Mathlib.Omega.{arith}
 use lib.ListN.{length, take, length-append}
 use Rattle.meter.specs.Days.{SheetAnswer, figures, refusal, meterDays}
 use Rattle.output.specs.Words.{ascii}
+use Rattle.output.specs.Decimal.{decimal}
+use Rattle.output.specs.Lines.{textLine}
 use Rattle.output.specs.Put.{Put, Holds}
 use Rattle.output.proofs.Putting.{put-within, put-whole}
 use Rattle.output.proofs.Decimals.{decimal-long}
-use Rattle.output.proofs.Room.{spaced-long, line-long}
+use Rattle.output.proofs.Room.{line-long}
 use Rattle.days.specs.Printed.{answerText, printedDays, mostDaysText}
 
 answer-room : (answer : SheetAnswer) → length (answerText answer) ≤ mostDaysText
 answer-room (figures found) =
-    simp
-    length-append
-    (omega (
-      arith,
-      decimal-long (found .sum),
-      spaced-long (found .repeated),
-      spaced-long (found .«repeated_zero»),
-      spaced-long (found .longest),
-      spaced-long (found .first),
-    ))
+    let days = found .repeated ∷ found .«repeated_zero» ∷ found .longest ∷ found .first ∷ [] in
+    rw (length-append (decimal (found .sum)) (textLine [] days)) (omega (arith, decimal-long (found .sum), line-long [] days))
 answer-room (refusal number place) = omega (arith, line-long (ascii "R") (number ∷ place ∷ []))
 
 text-room : (sheet : List ℕ) → length (answerText (meterDays sheet)) ≤ mostDaysText

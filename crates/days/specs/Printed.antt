@@ -1,20 +1,16 @@
 -- What is printed for a meter's sheet (02, T-01).
 use Prim.Native.Nat.{ℕ, _+_, _*_}
-use mathlib.Core.List.{List, _++_}
+use mathlib.Core.List.{List, [], _∷_, _++_}
 use Rattle.meter.specs.declared.figures.Figures.{Figures}
 use Rattle.meter.specs.Days.{SheetAnswer, figures, refusal, meterDays}
 use Rattle.output.specs.Decimal.{decimal}
-use Rattle.output.specs.Lines.{mostSpaced, spaced, lineEnd, refusalText}
+use Rattle.output.specs.Lines.{mostSpaced, textLine, refusalText}
 
--- The five figures in their order, on one line.
+-- The five figures in their order, on one line: the sum, and behind it those of days.
 abbrev pub figuresText : Figures → List ℕ
 figuresText found =
     decimal (found .sum)
-    ++ spaced (found .repeated)
-    ++ spaced (found .«repeated_zero»)
-    ++ spaced (found .longest)
-    ++ spaced (found .first)
-    ++ lineEnd
+    ++ textLine [] (found .repeated ∷ found .«repeated_zero» ∷ found .longest ∷ found .first ∷ [])
 
 -- By the answer to it: the figures, or the line of a refused sheet.
 abbrev pub answerText : SheetAnswer → List ℕ

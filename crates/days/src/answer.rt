@@ -2,18 +2,30 @@
 ghost use Prim.Native.Nat.{_≤_};
 ghost use lib.ListN.{length, take};
 ghost use Rattle.output.specs.Put.{Put, Holds};
+ghost use Rattle.output.specs.HandedOver.{HandedOver};
 ghost use Rattle.days.specs.Printed.{figuresText, printedDays, mostDaysText};
 use meter::Figures;
 use meter::MeterDays;
 use meter::days;
+use output::print;
+use output::put_line;
 use output::put_number;
 use output::put_refusal;
-use output::put_spaced;
-use output::put_words;
 
-// Answers the sheet in so many bytes at the start of the room: its text takes the sheet's place, and
-// the byte behind it is answered.
-pub(crate) fn answer(room: &mut [u8], bytes: usize) -> usize
+// Prints the answer to the sheet in so many bytes at the start of the room. What was printed is
+// answered: all of the text, or nothing where it could not be written, and that is then said.
+pub(crate) fn print_answer(room: &mut [u8], bytes: usize) -> &[u8]
+    requires { ⌜ bytes ≤ length (now room) ⌝ }
+    requires { ⌜ mostDaysText ≤ length (now room) ⌝ }
+    ensures { λ r. ⌜ HandedOver (now r) (printedDays (take bytes (now (room .entry)))) ⌝ }
+{
+    let end = put_answer(room, bytes);
+    let text = &room[..];
+    print(b"days", &text[..end])
+}
+
+// Puts the text of that answer into the sheet's place; the byte behind it is answered.
+fn put_answer(room: &mut [u8], bytes: usize) -> usize
     requires { ⌜ bytes ≤ length (now room) ⌝ }
     requires { ⌜ mostDaysText ≤ length (now room) ⌝ }
     ensures { λ r. ⌜ Holds (printedDays (take bytes (now (room .entry)))) r (now (room .exit)) ⌝ }
@@ -24,14 +36,16 @@ pub(crate) fn answer(room: &mut [u8], bytes: usize) -> usize
     }
 }
 
-// Puts the five figures, in their order, on one line.
+// Puts the five figures, in their order, on one line: the sum, and behind it those of days.
 fn put_figures(buffer: &mut [u8], figures: Figures) -> usize
     ensures { λ r. ⌜ Put (figuresText figures) 0 (now (buffer .entry)) r (now (buffer .exit)) ⌝ }
 {
     let end = put_number(buffer, 0, figures.sum);
-    let end = put_spaced(buffer, end, figures.repeated);
-    let end = put_spaced(buffer, end, figures.repeated_zero);
-    let end = put_spaced(buffer, end, figures.longest);
-    let end = put_spaced(buffer, end, figures.first);
-    put_words(buffer, end, b"\n")
+    let days = [
+        figures.repeated,
+        figures.repeated_zero,
+        figures.longest,
+        figures.first,
+    ];
+    put_line(buffer, end, b"", &days)
 }

@@ -11,6 +11,7 @@ use Rattle.fields.specs.Answers.{Verdict, accepts, refuses}
 use Rattle.fields.specs.Files.{readVerdict}
 use Rattle.records.specs.Periods.{periodFile}
 use Rattle.inspector.specs.declared.field.Field.{Field}
+use Rattle.names.proofs.FieldNames.{mostFieldText, field-long}
 use Rattle.output.specs.Words.{ascii}
 use Rattle.output.specs.Lines.{mostSpaced}
 use Rattle.output.proofs.Decimals.{decimal-long}
@@ -18,7 +19,6 @@ use Rattle.output.proofs.Room.{spaced-long, line-long}
 use Rattle.inspect.specs.declared.ending.Stop.{Stop}
 use Rattle.inspect.specs.declared.ending.Stop.the-variants.{Fault, End, Cut}
 use Rattle.inspect.specs.Page.{numberLine, verdictText, stopOf, stoppedAt, stopLine, pageEnd, mostPageText}
-use Rattle.inspect.proofs.FieldNames.{mostFieldText, field-long}
 
 pub number-room : (place at value : ℕ) (field : Field) → length (numberLine place at value field) ≤ mostPageText
 number-room place at value field =

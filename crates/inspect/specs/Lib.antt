@@ -1,3 +1,2 @@
 -- What the program prints.
-pub mod FieldWords
 pub mod Page

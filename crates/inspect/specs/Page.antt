@@ -11,12 +11,12 @@ use Rattle.fields.specs.Answers.{Verdict, accepts, refuses}
 use Rattle.fields.specs.Files.{readVerdict}
 use Rattle.records.specs.Periods.{periodFile}
 use Rattle.inspector.specs.declared.field.Field.{Field}
+use Rattle.names.specs.FieldWords.{fieldText, mostFieldWords}
 use Rattle.output.specs.Words.{ascii}
 use Rattle.output.specs.Decimal.{decimal}
 use Rattle.output.specs.Lines.{mostSpaced, spaced, textLine, refusalText}
 use Rattle.inspect.specs.declared.ending.Stop.{Stop}
 use Rattle.inspect.specs.declared.ending.Stop.the-variants.{Fault, End, Cut}
-use Rattle.inspect.specs.FieldWords.{fieldText, mostFieldWords}
 
 -- The line of a number: its place, its byte, its value and its field.
 abbrev pub numberLine : (place at value : ℕ) → Field → List ℕ

@@ -6,7 +6,6 @@
 mod ending;
 mod page;
 mod room;
-mod words;
 
 use crate::page::print_page;
 use crate::room::text_room;
@@ -21,10 +20,8 @@ fn main() {
     let Input::File { bytes } = input else {
         return;
     };
+    let cut = most < bytes;
+    let walked = if cut { most } else { bytes };
     let mut text = text_room();
-    if most < bytes {
-        print_page(&mut text, &room[..most], true);
-    } else {
-        print_page(&mut text, &room[..bytes], false);
-    }
+    print_page(&mut text, &room[..walked], cut);
 }

@@ -5,11 +5,11 @@ ghost use Rattle.output.specs.Put.{Put};
 ghost use Rattle.inspect.specs.Page.{numberLine, mostPageText};
 use crate::ending::print_ending;
 use crate::room::MOST_TEXT;
-use crate::words::put_field;
 use fields::Spot;
 use inspector::Field;
 use inspector::field_at;
 use inspector::step_at;
+use names::put_field;
 use number::Number;
 use output::print;
 use output::put_number;
@@ -36,7 +36,7 @@ pub(crate) fn print_page(room: &mut [u8], file: &[u8], cut: bool)
         };
         end = put_number_line(room, end, place, at, value, field);
         if room.len() - end < MOST_TEXT {
-            if print(b"inspect", &room[..end]) < end {
+            if print(b"inspect", &room[..end]).len() < end {
                 return;
             }
             end = 0;

@@ -2,10 +2,8 @@
 ghost use Prim.Native.Nat.{_≤_};
 ghost use lib.ListN.{length};
 ghost use Rattle.inspect.specs.Page.{mostPageText};
+use names::MOST_FIELD_WORDS;
 use output::MOST_SPACED;
-
-// No words of a field are longer, without its record's number.
-const FIELD_WORDS: usize = 25;
 
 // The numbers of the longest text, that of a fault: the record's, place and byte in its line, and two in
 // each of the two lettered lines.
@@ -15,7 +13,7 @@ const FAULT_NUMBERS: usize = 7;
 const FAULT_SIGNS: usize = 6;
 
 // No line of a page is longer, nor are the lines at its end together.
-pub(crate) const MOST_TEXT: usize = FIELD_WORDS + MOST_SPACED * FAULT_NUMBERS + FAULT_SIGNS;
+pub(crate) const MOST_TEXT: usize = MOST_FIELD_WORDS + MOST_SPACED * FAULT_NUMBERS + FAULT_SIGNS;
 
 // How many of the longest texts there is room for: so many lines and more are printed at a time.
 const TEXTS: usize = 10;

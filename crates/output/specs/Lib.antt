@@ -7,5 +7,5 @@ pub mod Decimal
 pub mod Lines
 -- text in a lent buffer: what the functions promise
 pub mod Put
--- what is answered when it is printed
-pub mod Taken
+-- what is answered when it is handed over
+pub mod HandedOver

@@ -2,8 +2,10 @@
 ghost use Prim.Native.Nat.{_≤_};
 ghost use lib.ListN.{length, take};
 ghost use Rattle.output.specs.Put.{Holds};
+ghost use Rattle.output.specs.HandedOver.{HandedOver};
 ghost use Rattle.rows.specs.Printed.{printedRows, mostRowsText};
 use fields::Answer;
+use output::print;
 use output::put_refusal;
 use output::put_rows;
 use period::PLANT_NUMBERS;
@@ -12,10 +14,21 @@ use period::quantify;
 use records::Plant;
 use records::Segment;
 
-// Answers the file in so many bytes at the start of the room: its text takes the file's place, and the
-// byte behind it is answered. The tables have room for the rows of every period, so that no file is
-// refused with 14 or 15.
-pub(crate) fn answer(room: &mut [u8], bytes: usize) -> usize
+// Prints the answer to the file in so many bytes at the start of the room. What was printed is
+// answered: all of the text, or nothing where it could not be written, and that is then said.
+pub(crate) fn print_answer(room: &mut [u8], bytes: usize) -> &[u8]
+    requires { ⌜ bytes ≤ length (now room) ⌝ }
+    requires { ⌜ mostRowsText ≤ length (now room) ⌝ }
+    ensures { λ r. ⌜ HandedOver (now r) (printedRows (take bytes (now (room .entry)))) ⌝ }
+{
+    let end = put_answer(room, bytes);
+    let text = &room[..];
+    print(b"rows", &text[..end])
+}
+
+// Puts the text of that answer into the file's place; the byte behind it is answered. The tables have
+// room for the rows of every period, so that no file is refused with 14 or 15.
+fn put_answer(room: &mut [u8], bytes: usize) -> usize
     requires { ⌜ bytes ≤ length (now room) ⌝ }
     requires { ⌜ mostRowsText ≤ length (now room) ⌝ }
     ensures { λ r. ⌜ Holds (printedRows (take bytes (now (room .entry)))) r (now (room .exit)) ⌝ }

@@ -6,11 +6,10 @@
 mod answer;
 mod room;
 
-use crate::answer::answer;
+use crate::answer::print_answer;
 use crate::room::room;
 use input::Input;
 use input::read_input;
-use output::print;
 
 fn main() {
     let mut room = room();
@@ -18,6 +17,5 @@ fn main() {
     let Input::File { bytes } = input else {
         return;
     };
-    let end = answer(&mut room, bytes);
-    print(b"rows", &room[..end]);
+    print_answer(&mut room, bytes);
 }

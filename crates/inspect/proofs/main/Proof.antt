@@ -1,11 +1,26 @@
 -- `inspect::main` is safe and ends: the bytes that are walked, all that were read or all but the last, stand at the start of the room. Assumes
 -- nothing.
+use Prim.Native.Nat.{_≤_}
 use mathlib.Core.Path.{sym}
+use mathlib.Core.Logic.{⊎-elim}
+use native.Mathlib.Omega.{arith}
+use lib.ListN.{length}
 use lib.Seq.{length-take-le}
 use borrow.Author.Needs.{needs}
+use Rattle.input.specs.declared.Input.the-variants.{File}
+use Rattle.input.specs.Received.{Received}
 use Rattle.inspect.proofs.main.Statement.{statement}
 use Rattle.inspect.proofs.main.Tie as tie
 
+-- ---- what is known when a file was read
+stands : (c : tie.After-input) → Received (File (c .input .given .0 .0)) (c .before .before .before .read-input .last .1 .0)
+stands c = rw (c .input .given .1) at (c .before .before .before .read-input .ensures)
+
+within : (c : tie.Joined1) → c .if1 .walked ≤ length (c .before .before .before .before .before .read-input .last .1 .0)
+within c =
+    ⊎-elim (λ cut. omega (arith, cut .1)) (λ whole. omega (arith, whole .1, stands (c .before .before) .0)) (c .if1 .came)
+
+-- ---- the needs
 large-buffer-requires : tie.Need-large-buffer-requires
 large-buffer-requires c κs = search needs
 
@@ -37,31 +52,16 @@ slice-aggregate-print-page : tie.Need-slice-aggregate-print-page
 slice-aggregate-print-page c = search needs
 
 array-share-prefix-room : tie.Need-array-share-prefix-room
-array-share-prefix-room c = search needs
+array-share-prefix-room c = within (c .before .before)
 
 slice-aggregate-print-page-2 : tie.Need-slice-aggregate-print-page-2
-slice-aggregate-print-page-2 c = sym (length-take-le _ (c .before .before .before .before .before .before .before .before .read-input .last .1 .0) (array-share-prefix-room (c .before)))
+slice-aggregate-print-page-2 c = sym (length-take-le _ _ (within (c .before .before .before)))
 
 print-page-requires : tie.Need-print-page-requires
 print-page-requires c κs = search needs
 
-slice-aggregate-print-page-3 : tie.Need-slice-aggregate-print-page-3
-slice-aggregate-print-page-3 c = search needs
-
-array-share-prefix-room-2 : tie.Need-array-share-prefix-room-2
-array-share-prefix-room-2 c = search needs
-
-slice-aggregate-print-page-4 : tie.Need-slice-aggregate-print-page-4
-slice-aggregate-print-page-4 c = sym (length-take-le _ (c .before .before .before .before .before .before .before .before .read-input .last .1 .0) (array-share-prefix-room-2 (c .before)))
-
-print-page-requires-2 : tie.Need-print-page-requires-2
-print-page-requires-2 c κs = search needs
-
 returns-2 : tie.Need-returns-2
 returns-2 c = search needs
-
-returns-3 : tie.Need-returns-3
-returns-3 c = search needs
 
 pub main-spec : {M : Type 1} → statement M
 main-spec =
@@ -80,9 +80,4 @@ main-spec =
     array-share-prefix-room
     slice-aggregate-print-page-2
     print-page-requires
-    slice-aggregate-print-page-3
-    array-share-prefix-room-2
-    slice-aggregate-print-page-4
-    print-page-requires-2
-    returns-2
-    returns-3)
+    returns-2)

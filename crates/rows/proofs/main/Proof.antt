@@ -1,7 +1,5 @@
--- `rows::main` is safe and ends: the bytes that were read stand at the start of the room, and so does the text of the answer. Assumes nothing.
-use mathlib.Core.Path.{sym}
+-- `rows::main` is safe and ends: the bytes that were read stand at the start of the room. Assumes nothing.
 use native.Mathlib.Omega.{arith}
-use lib.Seq.{length-take-le}
 use borrow.Author.Needs.{needs}
 use Rattle.input.specs.declared.Input.the-variants.{File}
 use Rattle.input.specs.Received.{Received}
@@ -34,23 +32,11 @@ enum-told c = search needs
 returns : tie.Need-returns
 returns c = search needs
 
-slice-aggregate-answer : tie.Need-slice-aggregate-answer
-slice-aggregate-answer c = search needs
+slice-aggregate-print-answer : tie.Need-slice-aggregate-print-answer
+slice-aggregate-print-answer c = search needs
 
-answer-requires : tie.Need-answer-requires
-answer-requires c κs = (stands (c .before .before) .0, omega arith)
-
-slice-aggregate-print : tie.Need-slice-aggregate-print
-slice-aggregate-print c = search needs
-
-array-share-prefix-room : tie.Need-array-share-prefix-room
-array-share-prefix-room c = search needs
-
-slice-aggregate-print-2 : tie.Need-slice-aggregate-print-2
-slice-aggregate-print-2 c = sym (length-take-le _ _ (c .before .before .before .answer .ensures .within))
-
-print-requires : tie.Need-print-requires
-print-requires c κs = search needs
+print-answer-requires : tie.Need-print-answer-requires
+print-answer-requires c κs = (stands (c .before .before) .0, omega arith)
 
 returns-2 : tie.Need-returns-2
 returns-2 c = search needs
@@ -66,10 +52,6 @@ main-spec =
     enum-known-input
     enum-told
     returns
-    slice-aggregate-answer
-    answer-requires
-    slice-aggregate-print
-    array-share-prefix-room
-    slice-aggregate-print-2
-    print-requires
+    slice-aggregate-print-answer
+    print-answer-requires
     returns-2)

@@ -8,7 +8,7 @@ use denote.Ref.{now}
 use borrow.Author.Needs.{needs}
 use Rattle.output.proofs.Putting.{put-length}
 use Rattle.output.proofs.Room.{put-near}
-use Rattle.inspect.specs.Page.{mostPageText}
+use Rattle.inspect.specs.Page.{pageEnd, mostPageText}
 use Rattle.inspect.proofs.TextRoom.{end-room}
 use Rattle.inspect.proofs.ending.print_ending.Statement.{statement}
 use Rattle.inspect.proofs.ending.print_ending.Tie as tie
@@ -20,7 +20,8 @@ within c =
     let a = s .args in
     let put = c .before .before .before .put-ending .ensures in
     let room = end-room (now (a .file)) (a .cut) (a .at .place) (a .at .byte) (a .field) in
-    omega (arith, put-near mostPageText put room, put-length put, s .pre)
+    let text = pageEnd (now (a .file)) (a .cut) (a .at .place) (a .at .byte) (a .field) in
+    omega (arith, put-near {text = text} mostPageText put room, put-length put, s .pre)
 
 -- ---- the needs
 put-ending-requires : tie.Need-put-ending-requires

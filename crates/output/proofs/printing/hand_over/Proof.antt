@@ -1,7 +1,10 @@
--- `output::printing::hand_over` meets its contract and ends: each turn leaves less of the text, and what is taken lies within it. Assumes nothing.
+-- `output::printing::hand_over` meets its contract and ends: each turn leaves less of the text, and after the last all of it is taken. Assumes nothing.
 use Prim.Native.Nat.{_≤_, _-_}
+use mathlib.Core.Path.{refl, sym}
+use mathlib.Core.Logic.{inl, inr}
 use native.Mathlib.Omega.{arith}
 use lib.ListN.{length}
+use lib.Seq.{take-all, length-take-le}
 use borrow.Author.Needs.{needs}
 use Rattle.output.proofs.printing.hand_over.Statement.{statement}
 use Rattle.output.proofs.printing.hand_over.Tie as tie
@@ -30,8 +33,11 @@ write-requires c κs = search needs
 count-requires : tie.Need-count-requires Inv-loop μ-loop
 count-requires c κs = search needs
 
+slice-aggregate-result : tie.Need-slice-aggregate-result Inv-loop μ-loop
+slice-aggregate-result c = search needs
+
 returns : tie.Need-returns Inv-loop μ-loop
-returns c = omega arith
+returns c = inr refl
 
 add-taken : tie.Need-add-taken Inv-loop μ-loop
 add-taken c = omega arith
@@ -42,8 +48,11 @@ loop-less c = omega arith
 loop-again : tie.Need-loop-again Inv-loop μ-loop
 loop-again c = omega arith
 
+slice-aggregate-result-2 : tie.Need-slice-aggregate-result-2 Inv-loop μ-loop
+slice-aggregate-result-2 c = sym (length-take-le _ _ (omega arith))
+
 returns-2 : tie.Need-returns-2 Inv-loop μ-loop
-returns-2 c = omega arith
+returns-2 c = inl (take-all (c .before .before .loop .taken) (c .before .before .before .before .args .text .now) (omega arith))
 
 pub hand-over-spec : {M : Type 1} → statement M
 hand-over-spec =
@@ -57,8 +66,10 @@ hand-over-spec =
     part-left-end
     write-requires
     count-requires
+    slice-aggregate-result
     returns
     add-taken
     loop-less
     loop-again
+    slice-aggregate-result-2
     returns-2)

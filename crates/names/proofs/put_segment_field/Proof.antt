@@ -1,11 +1,11 @@
--- `inspect::words::put_segment_field` meets its contract, name by name. Assumes nothing.
+-- `names::put_segment_field` meets its contract, name by name. Assumes nothing.
 use mathlib.Core.Path.{_≡_}
 use native.Mathlib.Omega.{arith}
 use borrow.Author.Needs.{needs}
 use Rattle.output.proofs.Putting.{put-then}
-use Rattle.inspect.proofs.FieldNames.{segment-last}
-use Rattle.inspect.proofs.words.put_segment_field.Statement.{statement}
-use Rattle.inspect.proofs.words.put_segment_field.Tie as tie
+use Rattle.names.proofs.FieldNames.{segment-last}
+use Rattle.names.proofs.put_segment_field.Statement.{statement}
+use Rattle.names.proofs.put_segment_field.Tie as tie
 
 slice-aggregate-put-record : tie.Need-slice-aggregate-put-record
 slice-aggregate-put-record c = search needs

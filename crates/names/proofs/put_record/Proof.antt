@@ -1,8 +1,8 @@
--- `inspect::words::put_record` meets its contract: the name, and the number behind it. Assumes nothing.
+-- `names::put_record` meets its contract: the name, and the number behind it. Assumes nothing.
 use borrow.Author.Needs.{needs}
 use Rattle.output.proofs.Putting.{put-then}
-use Rattle.inspect.proofs.words.put_record.Statement.{statement}
-use Rattle.inspect.proofs.words.put_record.Tie as tie
+use Rattle.names.proofs.put_record.Statement.{statement}
+use Rattle.names.proofs.put_record.Tie as tie
 
 put-words-requires : tie.Need-put-words-requires
 put-words-requires c κs = search needs

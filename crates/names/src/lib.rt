@@ -1,14 +1,18 @@
-// The words for a field, as 01 names it, up to the end of the line.
+// The words for a field, as 01 names it, up to the end of the line: put into a lent buffer, as the layer
+// of what is printed puts all text.
 ghost use mathlib.Core.List.{_++_};
 ghost use Rattle.output.specs.Lines.{spaced};
 ghost use Rattle.output.specs.Put.{Put};
-ghost use Rattle.inspect.specs.FieldWords.{headerWords, plantText, segmentText, lineText, fieldText};
+ghost use Rattle.names.specs.FieldWords.{headerWords, plantText, segmentText, lineText, fieldText};
 use inspector::Field;
 use output::put_spaced;
 use output::put_words;
 
-// Which field of which record.
-pub(crate) fn put_field(buffer: &mut [u8], at: usize, field: Field) -> usize
+// No words of a field are longer, without its record's number.
+pub const MOST_FIELD_WORDS: usize = 25;
+
+// Puts which field of which record it is.
+pub fn put_field(buffer: &mut [u8], at: usize, field: Field) -> usize
     ensures { λ r. ⌜ Put (fieldText field) at (now (buffer .entry)) r (now (buffer .exit)) ⌝ }
 {
     match field {

@@ -8,7 +8,7 @@ use Rattle.inspector.specs.declared.field.Field.the-variants.{Header, Plant, Se
 use Rattle.output.specs.Words.{ascii}
 use Rattle.output.specs.Lines.{mostSpaced}
 use Rattle.output.proofs.Room.{spaced-long}
-use Rattle.inspect.specs.FieldWords.{headerWords, plantWords, segmentWords, lineWords, fieldText, mostFieldWords}
+use Rattle.names.specs.FieldWords.{headerWords, plantWords, segmentWords, lineWords, fieldText, mostFieldWords}
 
 -- ---- the last field
 pub header-last : (field : ℕ) → 2 < field → headerWords field ≡ ascii " lines\n"

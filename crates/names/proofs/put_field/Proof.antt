@@ -1,7 +1,7 @@
--- `inspect::words::put_field` meets its contract, record by record. Assumes nothing.
+-- `names::put_field` meets its contract, record by record. Assumes nothing.
 use borrow.Author.Needs.{needs}
-use Rattle.inspect.proofs.words.put_field.Statement.{statement}
-use Rattle.inspect.proofs.words.put_field.Tie as tie
+use Rattle.names.proofs.put_field.Statement.{statement}
+use Rattle.names.proofs.put_field.Tie as tie
 
 enum-known-field : tie.Need-enum-known-field
 enum-known-field c = search needs

@@ -1,4 +1,4 @@
--- `days::answer::answer` meets its contract: the figures that the call counted, or the line of its refusal, and there is room for them. Assumes
+-- `days::answer::put_answer` meets its contract: the figures that the call counted, or the line of its refusal, and there is room for them. Assumes
 -- nothing.
 use mathlib.Core.Path.{sym, ap, _∙_}
 use native.Mathlib.Omega.{arith}
@@ -6,8 +6,8 @@ use lib.Seq.{length-take-le}
 use borrow.Author.Needs.{needs}
 use Rattle.meter.specs.Days.{daysTold}
 use Rattle.days.proofs.TextRoom.{held}
-use Rattle.days.proofs.answer.answer.Statement.{statement}
-use Rattle.days.proofs.answer.answer.Tie as tie
+use Rattle.days.proofs.answer.put_answer.Statement.{statement}
+use Rattle.days.proofs.answer.put_answer.Tie as tie
 
 slice-reshare-prefix-days : tie.Need-slice-reshare-prefix-days
 slice-reshare-prefix-days c = search needs
@@ -48,8 +48,8 @@ returns-2 c =
     let a = c .before .before .before .before .before .before .before .before .before .before in
     held (a .args .room .now) (a .args .bytes) (rw told (c .before .before .put-refusal .ensures)) (a .pre .1)
 
-pub answer-spec : {M : Type 1} → statement M
-answer-spec =
+pub put-answer-spec : {M : Type 1} → statement M
+put-answer-spec =
     tie.close
     (tie.spec
     slice-reshare-prefix-days

@@ -1,10 +1,10 @@
--- `inspect::words::put_header_field` meets its contract, name by name. Assumes nothing.
+-- `names::put_header_field` meets its contract, name by name. Assumes nothing.
 use mathlib.Core.Path.{_≡_}
 use native.Mathlib.Omega.{arith}
 use borrow.Author.Needs.{needs}
-use Rattle.inspect.proofs.FieldNames.{header-last}
-use Rattle.inspect.proofs.words.put_header_field.Statement.{statement}
-use Rattle.inspect.proofs.words.put_header_field.Tie as tie
+use Rattle.names.proofs.FieldNames.{header-last}
+use Rattle.names.proofs.put_header_field.Statement.{statement}
+use Rattle.names.proofs.put_header_field.Tie as tie
 
 slice-aggregate-put-words : tie.Need-slice-aggregate-put-words
 slice-aggregate-put-words c = search needs

@@ -1,4 +1,4 @@
--- `rows::answer::answer` meets its contract: the refusal's line, or the rows that the call left in its tables, and there is room for them.
+-- `rows::answer::put_answer` meets its contract: the refusal's line, or the rows that the call left in its tables, and there is room for them.
 -- Assumes nothing.
 use mathlib.Core.Path.{sym}
 use native.Mathlib.Omega.{arith}
@@ -7,8 +7,8 @@ use borrow.Author.Needs.{needs}
 use Rattle.output.proofs.Putting.{put-then}
 use Rattle.rows.proofs.AnswerText.{plants-within, segments-within, told-refused, told-accepted}
 use Rattle.rows.proofs.TextRoom.{held}
-use Rattle.rows.proofs.answer.answer.Statement.{statement}
-use Rattle.rows.proofs.answer.answer.Tie as tie
+use Rattle.rows.proofs.answer.put_answer.Statement.{statement}
+use Rattle.rows.proofs.answer.put_answer.Tie as tie
 
 slice-reshare-prefix-quantify : tie.Need-slice-reshare-prefix-quantify
 slice-reshare-prefix-quantify c = search needs
@@ -79,8 +79,8 @@ returns-2 c =
     let put = put-then (c .before .before .before .before .before .before .before .before .put-rows .ensures) (c .before .before .put-rows2 .ensures) in
     held (start .args .room .now) (start .args .bytes) (rw rows put) (start .pre .1)
 
-pub answer-spec : {M : Type 1} → statement M
-answer-spec =
+pub put-answer-spec : {M : Type 1} → statement M
+put-answer-spec =
     tie.close
     (tie.spec
     slice-reshare-prefix-quantify

@@ -1,11 +1,11 @@
--- `inspect::words::put_plant_field` meets its contract, name by name. Assumes nothing.
+-- `names::put_line_field` meets its contract, name by name. Assumes nothing.
 use mathlib.Core.Path.{_≡_}
 use native.Mathlib.Omega.{arith}
 use borrow.Author.Needs.{needs}
 use Rattle.output.proofs.Putting.{put-then}
-use Rattle.inspect.proofs.FieldNames.{plant-last}
-use Rattle.inspect.proofs.words.put_plant_field.Statement.{statement}
-use Rattle.inspect.proofs.words.put_plant_field.Tie as tie
+use Rattle.names.proofs.FieldNames.{line-last}
+use Rattle.names.proofs.put_line_field.Statement.{statement}
+use Rattle.names.proofs.put_line_field.Tie as tie
 
 slice-aggregate-put-record : tie.Need-slice-aggregate-put-record
 slice-aggregate-put-record c = search needs
@@ -31,6 +31,18 @@ slice-aggregate-put-words-3 c = search needs
 put-words-requires-3 : tie.Need-put-words-requires-3
 put-words-requires-3 c κs = search needs
 
+slice-aggregate-put-words-4 : tie.Need-slice-aggregate-put-words-4
+slice-aggregate-put-words-4 c = search needs
+
+put-words-requires-4 : tie.Need-put-words-requires-4
+put-words-requires-4 c κs = search needs
+
+slice-aggregate-put-words-5 : tie.Need-slice-aggregate-put-words-5
+slice-aggregate-put-words-5 c = search needs
+
+put-words-requires-5 : tie.Need-put-words-requires-5
+put-words-requires-5 c κs = search needs
+
 same-length : tie.Need-same-length
 same-length c = search needs
 
@@ -55,10 +67,28 @@ same-length-3 c = search needs
 returns-3 : tie.Need-returns-3
 returns-3 c =
     let put = put-then (c .before .before .before .before .before .before .before .before .put-record .ensures) (c .before .before .put-words3 .ensures) in
-    rw (plant-last (c .before .before .before .before .before .before .before .before .before .before .before .before .args .field) (omega arith)) put
+    let its : c .before .before .before .before .before .before .before .before .before .before .before .before .args .field ≡ 2 = omega arith in
+    rw its put
 
-pub put-plant-field-spec : {M : Type 1} → statement M
-put-plant-field-spec =
+same-length-4 : tie.Need-same-length-4
+same-length-4 c = search needs
+
+returns-4 : tie.Need-returns-4
+returns-4 c =
+    let put = put-then (c .before .before .before .before .before .before .before .before .put-record .ensures) (c .before .before .put-words4 .ensures) in
+    let its : c .before .before .before .before .before .before .before .before .before .before .before .before .args .field ≡ 3 = omega arith in
+    rw its put
+
+same-length-5 : tie.Need-same-length-5
+same-length-5 c = search needs
+
+returns-5 : tie.Need-returns-5
+returns-5 c =
+    let put = put-then (c .before .before .before .before .before .before .before .before .put-record .ensures) (c .before .before .put-words5 .ensures) in
+    rw (line-last (c .before .before .before .before .before .before .before .before .before .before .before .before .args .field) (omega arith)) put
+
+pub put-line-field-spec : {M : Type 1} → statement M
+put-line-field-spec =
     tie.close
     (tie.spec
     slice-aggregate-put-record
@@ -69,9 +99,17 @@ put-plant-field-spec =
     put-words-requires-2
     slice-aggregate-put-words-3
     put-words-requires-3
+    slice-aggregate-put-words-4
+    put-words-requires-4
+    slice-aggregate-put-words-5
+    put-words-requires-5
     same-length
     returns
     same-length-2
     returns-2
     same-length-3
-    returns-3)
+    returns-3
+    same-length-4
+    returns-4
+    same-length-5
+    returns-5)

@@ -1,0 +1,2 @@
+-- Laws of the words for fields.
+pub mod FieldNames

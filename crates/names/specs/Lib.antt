@@ -1,0 +1,2 @@
+-- The words for fields.
+pub mod FieldWords
