@@ -1,4 +1,4 @@
-// Standard input, read into room that is lent: what the programs that take a period file share.
+// Standard input, read into room that is lent: what all programs share.
 ghost use Rattle.input.specs.Received.{Received};
 use libc::STDIN_FILENO;
 use output::complain;

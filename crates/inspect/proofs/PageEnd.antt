@@ -16,10 +16,10 @@ use Rattle.inspector.specs.declared.field.Field.{Field}
 use Rattle.inspect.specs.declared.ending.Stop.{Stop}
 use Rattle.inspect.specs.Page.{stopOf, stoppedAt, verdictText, stopLine, pageEnd}
 
-module _ (file : List ℕ) (cut : Bool) (place at : ℕ) (field : Field) (found : Number) (answer : Answer) where
+module _ (file : List ℕ) (cut : Bool) (place byte : ℕ) (field : Field) (found : Number) (answer : Answer) where
   pub page-end :
-      {stop : Stop} {fault : ℕ} → finds found ≡ readAt file at → said answer ≡ readVerdict (periodFile file) →
-      stop ≡ stopOf (finds found) cut (eqb at (length file)) → fault ≡ refusalOf (finds found) →
-      pageEnd file cut place at field ≡ stoppedAt stop place at field ++ verdictText (said answer) ++ stopLine stop fault place at
+      {stop : Stop} {fault : ℕ} → finds found ≡ readAt file byte → said answer ≡ readVerdict (periodFile file) →
+      stop ≡ stopOf (finds found) cut (eqb byte (length file)) → fault ≡ refusalOf (finds found) →
+      pageEnd file cut place byte field ≡ stoppedAt stop place byte field ++ verdictText (said answer) ++ stopLine stop fault place byte
   unfolding pageEnd
   page-end finding answered stopping faulty = rw (stopping, faulty, answered, finding) refl

@@ -20,29 +20,29 @@ use Rattle.inspect.specs.declared.ending.Stop.{Stop}
 use Rattle.inspect.specs.declared.ending.Stop.the-variants.{Fault, End, Cut}
 use Rattle.inspect.specs.Page.{numberLine, verdictText, stopOf, stoppedAt, stopLine, pageEnd, mostPageText}
 
-pub number-room : (place at value : ℕ) (field : Field) → length (numberLine place at value field) ≤ mostPageText
-number-room place at value field =
-    simp length-append (omega (arith, decimal-long place, spaced-long at, spaced-long value, field-long field))
+pub number-room : (place byte value : ℕ) (field : Field) → length (numberLine place byte value field) ≤ mostPageText
+number-room place byte value field =
+    simp length-append (omega (arith, decimal-long place, spaced-long byte, spaced-long value, field-long field))
 
 verdict-long : (verdict : Verdict) → length (verdictText verdict) ≤ 2 + 2 * mostSpaced
 verdict-long accepts = omega arith
 verdict-long (refuses number place) = omega (arith, line-long (ascii "R") (number ∷ place ∷ []))
 
-stopped-long : (stop : Stop) (place at : ℕ) (field : Field) → length (stoppedAt stop place at field) ≤ mostFieldText + 2 * mostSpaced + 2
-stopped-long Fault place at field = simp length-append (omega (arith, decimal-long place, spaced-long at, field-long field))
-stopped-long End place at field = omega arith
-stopped-long Cut place at field = omega arith
+stopped-long : (stop : Stop) (place byte : ℕ) (field : Field) → length (stoppedAt stop place byte field) ≤ mostFieldText + 2 * mostSpaced + 2
+stopped-long Fault place byte field = simp length-append (omega (arith, decimal-long place, spaced-long byte, field-long field))
+stopped-long End place byte field = omega arith
+stopped-long Cut place byte field = omega arith
 
-stop-long : (stop : Stop) (fault place at : ℕ) → length (stopLine stop fault place at) ≤ 2 + 2 * mostSpaced
-stop-long Fault fault place at = omega (arith, line-long (ascii "F") (fault ∷ place ∷ []))
-stop-long End fault place at = omega (arith, line-long (ascii "E") (place ∷ at ∷ []))
-stop-long Cut fault place at = omega (arith, line-long (ascii "C") (place ∷ at ∷ []))
+stop-long : (stop : Stop) (fault place byte : ℕ) → length (stopLine stop fault place byte) ≤ 2 + 2 * mostSpaced
+stop-long Fault fault place byte = omega (arith, line-long (ascii "F") (fault ∷ place ∷ []))
+stop-long End fault place byte = omega (arith, line-long (ascii "E") (place ∷ byte ∷ []))
+stop-long Cut fault place byte = omega (arith, line-long (ascii "C") (place ∷ byte ∷ []))
 
-pub end-room : (file : List ℕ) (cut : Bool) (place at : ℕ) (field : Field) → length (pageEnd file cut place at field) ≤ mostPageText
+pub end-room : (file : List ℕ) (cut : Bool) (place byte : ℕ) (field : Field) → length (pageEnd file cut place byte field) ≤ mostPageText
 unfolding pageEnd
-end-room file cut place at field =
-    let stop = stopOf (readAt file at) cut (eqb at (length file)) in
+end-room file cut place byte field =
+    let stop = stopOf (readAt file byte) cut (eqb byte (length file)) in
     let verdict = readVerdict (periodFile file) in
     simp
     length-append
-    (omega (arith, stopped-long stop place at field, verdict-long verdict, stop-long stop (refusalOf (readAt file at)) place at))
+    (omega (arith, stopped-long stop place byte field, verdict-long verdict, stop-long stop (refusalOf (readAt file byte)) place byte))

@@ -19,12 +19,12 @@ use Rattle.inspect.specs.declared.ending.Stop.{Stop}
 use Rattle.inspect.specs.declared.ending.Stop.the-variants.{Fault, End, Cut}
 
 -- The line of a number: its place, its byte, its value and its field.
-abbrev pub numberLine : (place at value : ℕ) → Field → List ℕ
-numberLine place at value field = decimal place ++ spaced at ++ spaced value ++ fieldText field
+abbrev pub numberLine : (place byte value : ℕ) → Field → List ℕ
+numberLine place byte value field = decimal place ++ spaced byte ++ spaced value ++ fieldText field
 
 -- That of a number that has a fault, and so no value.
-abbrev pub faultyLine : (place at : ℕ) → Field → List ℕ
-faultyLine place at field = decimal place ++ spaced at ++ ascii " -" ++ fieldText field
+abbrev pub faultyLine : (place byte : ℕ) → Field → List ℕ
+faultyLine place byte field = decimal place ++ spaced byte ++ ascii " -" ++ fieldText field
 
 -- The line of a refused file; none where it is accepted.
 abbrev pub verdictText : Verdict → List ℕ
@@ -39,24 +39,24 @@ stopOf (value-found value next) cut walked = Fault
 stopOf (fault-found refusal) cut walked = cond (eqb refusal ends) (cond cut Cut (cond walked End Fault)) Fault
 
 -- The line of the number there, where it has a fault.
-abbrev pub stoppedAt : Stop → (place at : ℕ) → Field → List ℕ
-stoppedAt Fault place at field = faultyLine place at field
-stoppedAt End place at field = []
-stoppedAt Cut place at field = []
+abbrev pub stoppedAt : Stop → (place byte : ℕ) → Field → List ℕ
+stoppedAt Fault place byte field = faultyLine place byte field
+stoppedAt End place byte field = []
+stoppedAt Cut place byte field = []
 
 -- A letter for the stop: with the fault's number and its place, or with the count of numbers and of bytes before it.
-abbrev pub stopLine : Stop → (fault place at : ℕ) → List ℕ
-stopLine Fault fault place at = textLine (ascii "F") (fault ∷ place ∷ [])
-stopLine End fault place at = textLine (ascii "E") (place ∷ at ∷ [])
-stopLine Cut fault place at = textLine (ascii "C") (place ∷ at ∷ [])
+abbrev pub stopLine : Stop → (fault place byte : ℕ) → List ℕ
+stopLine Fault fault place byte = textLine (ascii "F") (fault ∷ place ∷ [])
+stopLine End fault place byte = textLine (ascii "E") (place ∷ byte ∷ [])
+stopLine Cut fault place byte = textLine (ascii "C") (place ∷ byte ∷ [])
 
 -- The end of the page of a file, where its walk stopped at a place, a byte and a field. What the accounts refuse is not looked at.
-unfoldable pub pageEnd : (file : List ℕ) (cut : Bool) (place at : ℕ) → Field → List ℕ
-pageEnd file cut place at field =
-    let stop = stopOf (readAt file at) cut (eqb at (length file)) in
-    stoppedAt stop place at field
+unfoldable pub pageEnd : (file : List ℕ) (cut : Bool) (place byte : ℕ) → Field → List ℕ
+pageEnd file cut place byte field =
+    let stop = stopOf (readAt file byte) cut (eqb byte (length file)) in
+    stoppedAt stop place byte field
     ++ verdictText (readVerdict (periodFile file))
-    ++ stopLine stop (refusalOf (readAt file at)) place at
+    ++ stopLine stop (refusalOf (readAt file byte)) place byte
 
 -- ---- how long a page's text is at most
 -- The longest is that of a fault. Its numbers: the record's, place and byte in its line, and two in each of the lettered lines.

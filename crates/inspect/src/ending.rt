@@ -35,15 +35,15 @@ enum Stop {
 // the room.
 pub(crate) fn print_ending(
     room: &mut [u8],
-    end: usize,
+    at: usize,
     file: &[u8],
     cut: bool,
-    at: Spot,
+    spot: Spot,
     field: Field,
 )
-    requires { ⌜ end + mostPageText ≤ length (now room) ⌝ }
+    requires { ⌜ at + mostPageText ≤ length (now room) ⌝ }
 {
-    let end = put_ending(room, end, file, cut, at, field);
+    let end = put_ending(room, at, file, cut, spot, field);
     print(b"inspect", &room[..end]);
 }
 
@@ -51,20 +51,27 @@ pub(crate) fn print_ending(
 // the stop.
 fn put_ending(
     buffer: &mut [u8],
-    end: usize,
+    at: usize,
     file: &[u8],
     cut: bool,
-    at: Spot,
+    spot: Spot,
     field: Field,
 ) -> usize
-    ensures { λ r. ⌜ Put (pageEnd (now (file .entry)) cut (at .place) (at .byte) field) end (now (buffer .entry)) r (now (buffer .exit)) ⌝ }
+    ensures { λ r. ⌜ Put (pageEnd (now (file .entry)) cut (spot .place) (spot .byte) field) at (now (buffer .entry)) r (now (buffer .exit)) ⌝ }
 {
-    let found = step_at(file, at.byte).found;
+    let found = step_at(file, spot.byte).found;
     let answer = read(file).answer;
-    let stop = stop_of(found, cut, at.byte == file.len());
-    let end = put_stopped_at(buffer, end, stop, at.place, at.byte, field);
-    let end = put_verdict(buffer, end, answer);
-    put_stop(buffer, end, stop, found.refusal() as u64, at.place, at.byte)
+    let stop = stop_of(found, cut, spot.byte == file.len());
+    let at = put_stopped_at(buffer, at, stop, spot.place, spot.byte, field);
+    let at = put_verdict(buffer, at, answer);
+    put_stop(
+        buffer,
+        at,
+        stop,
+        found.refusal() as u64,
+        spot.place,
+        spot.byte,
+    )
 }
 
 // Bytes that end are cut where the file goes on behind them. Else they end inside a number, or the file
@@ -88,29 +95,29 @@ fn stop_of(found: Number, cut: bool, all_walked: bool) -> Stop
 // Puts the line of the number where the walk stopped; nothing where there is none.
 fn put_stopped_at(
     buffer: &mut [u8],
-    end: usize,
+    at: usize,
     stop: Stop,
     place: u64,
-    at: usize,
+    byte: usize,
     field: Field,
 ) -> usize
-    ensures { λ r. ⌜ Put (stoppedAt stop place at field) end (now (buffer .entry)) r (now (buffer .exit)) ⌝ }
+    ensures { λ r. ⌜ Put (stoppedAt stop place byte field) at (now (buffer .entry)) r (now (buffer .exit)) ⌝ }
 {
     match stop {
-        Stop::Fault => put_faulty(buffer, end, place, at, field),
-        Stop::End => put_words(buffer, end, b""),
-        Stop::Cut => put_words(buffer, end, b""),
+        Stop::Fault => put_faulty(buffer, at, place, byte, field),
+        Stop::End => put_words(buffer, at, b""),
+        Stop::Cut => put_words(buffer, at, b""),
     }
 }
 
 // Puts the line of a number that has a fault, and so no value.
-fn put_faulty(buffer: &mut [u8], end: usize, place: u64, at: usize, field: Field) -> usize
-    ensures { λ r. ⌜ Put (faultyLine place at field) end (now (buffer .entry)) r (now (buffer .exit)) ⌝ }
+fn put_faulty(buffer: &mut [u8], at: usize, place: u64, byte: usize, field: Field) -> usize
+    ensures { λ r. ⌜ Put (faultyLine place byte field) at (now (buffer .entry)) r (now (buffer .exit)) ⌝ }
 {
-    let end = put_number(buffer, end, place);
-    let end = put_spaced(buffer, end, at as u64);
-    let end = put_words(buffer, end, b" -");
-    put_field(buffer, end, field)
+    let at = put_number(buffer, at, place);
+    let at = put_spaced(buffer, at, byte as u64);
+    let at = put_words(buffer, at, b" -");
+    put_field(buffer, at, field)
 }
 
 // Puts the line of a refused file, as `rows` prints it; nothing where it is accepted.
@@ -125,12 +132,12 @@ fn put_verdict(buffer: &mut [u8], at: usize, answer: Answer) -> usize
 
 // Puts the last line: a letter for the stop, with the fault's number and its place, or with the count
 // of numbers and of bytes before it.
-fn put_stop(buffer: &mut [u8], end: usize, stop: Stop, fault: u64, place: u64, at: usize) -> usize
-    ensures { λ r. ⌜ Put (stopLine stop fault place at) end (now (buffer .entry)) r (now (buffer .exit)) ⌝ }
+fn put_stop(buffer: &mut [u8], at: usize, stop: Stop, fault: u64, place: u64, byte: usize) -> usize
+    ensures { λ r. ⌜ Put (stopLine stop fault place byte) at (now (buffer .entry)) r (now (buffer .exit)) ⌝ }
 {
     match stop {
-        Stop::Fault => put_line(buffer, end, b"F", &[fault, place]),
-        Stop::End => put_line(buffer, end, b"E", &[place, at as u64]),
-        Stop::Cut => put_line(buffer, end, b"C", &[place, at as u64]),
+        Stop::Fault => put_line(buffer, at, b"F", &[fault, place]),
+        Stop::End => put_line(buffer, at, b"E", &[place, byte as u64]),
+        Stop::Cut => put_line(buffer, at, b"C", &[place, byte as u64]),
     }
 }

@@ -25,16 +25,16 @@ pub(crate) fn print_page(room: &mut [u8], file: &[u8], cut: bool)
     let header = header_of(file);
     let mut end = 0;
     let mut place = 0;
-    let mut at = 0;
+    let mut byte = 0;
     loop {
-        let step = step_at(file, at);
+        let step = step_at(file, byte);
         let found = step.found;
         let field = field_at(header, place);
         let Number::Value { value, next: _ } = found else {
-            print_ending(room, end, file, cut, Spot { byte: at, place }, field);
+            print_ending(room, end, file, cut, Spot { byte, place }, field);
             return;
         };
-        end = put_number_line(room, end, place, at, value, field);
+        end = put_number_line(room, end, place, byte, value, field);
         if room.len() - end < MOST_TEXT {
             if print(b"inspect", &room[..end]).len() < end {
                 return;
@@ -42,23 +42,23 @@ pub(crate) fn print_page(room: &mut [u8], file: &[u8], cut: bool)
             end = 0;
         }
         place += 1;
-        at = step.at;
+        byte = step.at;
     }
 }
 
 // Puts place, byte, value and field of a number.
 fn put_number_line(
     buffer: &mut [u8],
-    end: usize,
-    place: u64,
     at: usize,
+    place: u64,
+    byte: usize,
     value: u64,
     field: Field,
 ) -> usize
-    ensures { λ r. ⌜ Put (numberLine place at value field) end (now (buffer .entry)) r (now (buffer .exit)) ⌝ }
+    ensures { λ r. ⌜ Put (numberLine place byte value field) at (now (buffer .entry)) r (now (buffer .exit)) ⌝ }
 {
-    let end = put_number(buffer, end, place);
-    let end = put_spaced(buffer, end, at as u64);
-    let end = put_spaced(buffer, end, value);
-    put_field(buffer, end, field)
+    let at = put_number(buffer, at, place);
+    let at = put_spaced(buffer, at, byte as u64);
+    let at = put_spaced(buffer, at, value);
+    put_field(buffer, at, field)
 }

@@ -39,38 +39,38 @@ line-last (suc (suc (suc (suc field)))) more = refl
 abbrev pub mostFieldText : ℕ
 mostFieldText = mostSpaced + mostFieldWords
 
--- the words of a header's field, and what stands behind a record's number
-header-long : (field : ℕ) → length (headerWords field) ≤ mostFieldText
-header-long zero = omega arith
-header-long (suc zero) = omega arith
-header-long (suc (suc zero)) = omega arith
-header-long (suc (suc (suc field))) = omega arith
+-- the words of a header's field
+header-words-long : (field : ℕ) → length (headerWords field) ≤ mostFieldText
+header-words-long zero = omega arith
+header-words-long (suc zero) = omega arith
+header-words-long (suc (suc zero)) = omega arith
+header-words-long (suc (suc (suc field))) = omega arith
 
--- no name is longer
+-- what stands behind a record's number: no name is longer
 abbrev mostName : ℕ
 mostName = 17
 
-plant-long : (field : ℕ) → length (plantWords field) ≤ mostName
-plant-long zero = omega arith
-plant-long (suc zero) = omega arith
-plant-long (suc (suc field)) = omega arith
+plant-words-long : (field : ℕ) → length (plantWords field) ≤ mostName
+plant-words-long zero = omega arith
+plant-words-long (suc zero) = omega arith
+plant-words-long (suc (suc field)) = omega arith
 
-segment-long : (field : ℕ) → length (segmentWords field) ≤ mostName
-segment-long zero = omega arith
-segment-long (suc zero) = omega arith
-segment-long (suc (suc field)) = omega arith
+segment-words-long : (field : ℕ) → length (segmentWords field) ≤ mostName
+segment-words-long zero = omega arith
+segment-words-long (suc zero) = omega arith
+segment-words-long (suc (suc field)) = omega arith
 
-line-long : (field : ℕ) → length (lineWords field) ≤ mostName
-line-long zero = omega arith
-line-long (suc zero) = omega arith
-line-long (suc (suc zero)) = omega arith
-line-long (suc (suc (suc zero))) = omega arith
-line-long (suc (suc (suc (suc field)))) = omega arith
+line-words-long : (field : ℕ) → length (lineWords field) ≤ mostName
+line-words-long zero = omega arith
+line-words-long (suc zero) = omega arith
+line-words-long (suc (suc zero)) = omega arith
+line-words-long (suc (suc (suc zero))) = omega arith
+line-words-long (suc (suc (suc (suc field)))) = omega arith
 
 pub field-long : (field : Field) → length (fieldText field) ≤ mostFieldText
-field-long (Header field) = header-long field
-field-long (Plant number field) = simp length-append (omega (arith, spaced-long number, plant-long field))
-field-long (Segment number field) = simp length-append (omega (arith, spaced-long number, segment-long field))
-field-long (Line number field) = simp length-append (omega (arith, spaced-long number, line-long field))
+field-long (Header field) = header-words-long field
+field-long (Plant number field) = simp length-append (omega (arith, spaced-long number, plant-words-long field))
+field-long (Segment number field) = simp length-append (omega (arith, spaced-long number, segment-words-long field))
+field-long (Line number field) = simp length-append (omega (arith, spaced-long number, line-words-long field))
 field-long After = omega arith
 field-long Untold = omega arith

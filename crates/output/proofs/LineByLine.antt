@@ -48,15 +48,15 @@ row-line letter own numbers = simp append-assoc
 -- one row more, of the numbers from where it begins up to where it ends
 module _ {at : ℕ} {buffer : List ℕ} {end : ℕ} {buffer' : List ℕ} {end' : ℕ} {buffer'' : List ℕ} where
   pub row-more :
-      (letter : List ℕ) (numbers : ℕ) (table : List ℕ) (row : ℕ) → Put (rowsText letter numbers table row) at buffer end buffer' →
-      Put (textLine letter ((row + 1) ∷ take (numbers * row + numbers - numbers * row) (drop (numbers * row) table))) end buffer' end' buffer'' →
-      Put (rowsText letter numbers table (row + 1)) at buffer end' buffer''
+      (letter : List ℕ) (width : ℕ) (table : List ℕ) (row : ℕ) → Put (rowsText letter width table row) at buffer end buffer' →
+      Put (textLine letter ((row + 1) ∷ take (width * row + width - width * row) (drop (width * row) table))) end buffer' end' buffer'' →
+      Put (rowsText letter width table (row + 1)) at buffer end' buffer''
   unfolding rowsText
-  row-more letter numbers table row past next =
-      let long : numbers * row + numbers - numbers * row ≡ numbers = omega arith in
+  row-more letter width table row past next =
+      let long : width * row + width - width * row ≡ width = omega arith in
       let whole = rw (add-one row, long) at next in
       rw (add-one row) (put-then past whole)
 
 -- a row that is there lies within the table
-pub row-within : (table numbers row : ℕ) → row < table / numbers → numbers * row + numbers ≤ table
-row-within table numbers row there = omega (arith, mul-le-mul-left numbers there, div-mul-le-self table numbers)
+pub row-within : (table width row : ℕ) → row < table / width → width * row + width ≤ table
+row-within table width row there = omega (arith, mul-le-mul-left width there, div-mul-le-self table width)

@@ -24,25 +24,25 @@ unfolding textLine
 line-long words numbers = simp length-append (omega (arith, all-spaced-long numbers))
 
 -- ---- the rows of a table, behind a letter
-row-long : (letter : ℕ) (numbers : ℕ) (table : List ℕ) (index : ℕ) → length (rowText (letter ∷ []) numbers table index) ≤ rowSigns + mostSpaced * suc numbers
-row-long letter numbers table index =
-    let row = take numbers (drop (numbers * index) table) in
-    omega (arith, line-long (letter ∷ []) (suc index ∷ row), length-take numbers (drop (numbers * index) table))
+row-long : (letter : ℕ) (width : ℕ) (table : List ℕ) (index : ℕ) → length (rowText (letter ∷ []) width table index) ≤ rowSigns + mostSpaced * suc width
+row-long letter width table index =
+    let row = take width (drop (width * index) table) in
+    omega (arith, line-long (letter ∷ []) (suc index ∷ row), length-take width (drop (width * index) table))
 
-rows-long : (letter numbers : ℕ) (table : List ℕ) (count : ℕ) → length (rowsText (letter ∷ []) numbers table count) ≤ mostInRows count numbers
+rows-long : (letter width : ℕ) (table : List ℕ) (count : ℕ) → length (rowsText (letter ∷ []) width table count) ≤ mostInRows count width
 unfolding rowsText
-rows-long letter numbers table zero = omega arith
-rows-long letter numbers table (suc count) =
-    rw (length-append (rowsText (letter ∷ []) numbers table count) (rowText (letter ∷ []) numbers table count))
-    (omega (arith, rows-long letter numbers table count, row-long letter numbers table count))
+rows-long letter width table zero = omega arith
+rows-long letter width table (suc count) =
+    rw (length-append (rowsText (letter ∷ []) width table count) (rowText (letter ∷ []) width table count))
+    (omega (arith, rows-long letter width table count, row-long letter width table count))
 
 -- A table of no more numbers than so many records have is no longer than their rows at most are.
 pub table-long :
-    (letter numbers : ℕ) (table : List ℕ) (most : ℕ) → 0 < numbers → length table ≤ numbers * most →
-    length (tableText (letter ∷ []) numbers table) ≤ mostInRows most numbers
-table-long letter numbers table most some few =
-    let rows : length table / numbers < suc most = div-lt-iff-lt-mul some .1 (omega (arith, suc-mul most numbers, mul-comm most numbers)) in
-    le-trans (rows-long letter numbers table (length table / numbers)) (mul-le-mul-right (rowSigns + mostSpaced * suc numbers) (omega (arith, rows)))
+    (letter width : ℕ) (table : List ℕ) (most : ℕ) → 0 < width → length table ≤ width * most →
+    length (tableText (letter ∷ []) width table) ≤ mostInRows most width
+table-long letter width table most some few =
+    let rows : length table / width < suc most = div-lt-iff-lt-mul some .1 (omega (arith, suc-mul most width, mul-comm most width)) in
+    le-trans (rows-long letter width table (length table / width)) (mul-le-mul-right (rowSigns + mostSpaced * suc width) (omega (arith, rows)))
 
 -- ---- where text ends
 -- no more than so many bytes on

@@ -32,22 +32,23 @@ refusalText number place = textLine (ascii "R") (number ∷ place ∷ [])
 abbrev pub refusalLine : Refusal → List ℕ
 refusalLine refusal = refusalText (numberOf (refusal .reason)) (refusal .place)
 
--- The row at an index from 0 of a table with so many numbers a row: its letter, the record's number from 1 on, and the row's numbers.
-abbrev pub rowText : (letter : List ℕ) (numbers : ℕ) → List ℕ → (index : ℕ) → List ℕ
-rowText letter numbers table index = textLine letter (suc index ∷ take numbers (drop (numbers * index) table))
+-- The row at an index from 0 of a table whose rows have so many numbers: its letter, the record's number from 1 on, and the row's numbers.
+abbrev pub rowText : (letter : List ℕ) (width : ℕ) → List ℕ → (index : ℕ) → List ℕ
+rowText letter width table index = textLine letter (suc index ∷ take width (drop (width * index) table))
 
 -- The rows of so many records.
-unfoldable pub rowsText : (letter : List ℕ) (numbers : ℕ) → List ℕ → (count : ℕ) → List ℕ
-rowsText letter numbers table zero = []
-rowsText letter numbers table (suc count) = rowsText letter numbers table count ++ rowText letter numbers table count
+unfoldable pub rowsText : (letter : List ℕ) (width : ℕ) → List ℕ → (count : ℕ) → List ℕ
+rowsText letter width table zero = []
+rowsText letter width table (suc count) = rowsText letter width table count ++ rowText letter width table count
 
 -- A whole table: as many rows as it has. The library's n / 0 is 0, so one of rows without numbers has none.
-abbrev pub tableText : (letter : List ℕ) (numbers : ℕ) → List ℕ → List ℕ
-tableText letter numbers table = rowsText letter numbers table (length table / numbers)
+abbrev pub tableText : (letter : List ℕ) (width : ℕ) → List ℕ → List ℕ
+tableText letter width table = rowsText letter width table (length table / width)
 
--- How many bytes the rows of so many records take at most: a letter and the end of the line, and the numbers behind that of the record.
+-- A row's letter and the end of its line.
 abbrev pub rowSigns : ℕ
 rowSigns = 2
 
-abbrev pub mostInRows : (count numbers : ℕ) → ℕ
-mostInRows count numbers = count * (rowSigns + mostSpaced * suc numbers)
+-- How many bytes the rows of so many records take at most: these signs, the record's own number and the numbers of its row.
+abbrev pub mostInRows : (count width : ℕ) → ℕ
+mostInRows count width = count * (rowSigns + mostSpaced * suc width)

@@ -32,21 +32,21 @@ pub fn put_refusal(buffer: &mut [u8], at: usize, refusal: Refusal) -> usize
 }
 
 // Puts the rows of a table, with so many numbers each, of records that are numbered from 1.
-pub fn put_rows(buffer: &mut [u8], at: usize, letter: &[u8], table: &[u64], numbers: usize) -> usize
-    ensures { λ r. ⌜ Put (tableText (now (letter .entry)) numbers (now (table .entry))) at (now (buffer .entry)) r (now (buffer .exit)) ⌝ }
+pub fn put_rows(buffer: &mut [u8], at: usize, letter: &[u8], table: &[u64], width: usize) -> usize
+    ensures { λ r. ⌜ Put (tableText (now (letter .entry)) width (now (table .entry))) at (now (buffer .entry)) r (now (buffer .exit)) ⌝ }
 {
-    let rows = rows_in(table.len(), numbers);
+    let rows = rows_in(table.len(), width);
     // No row yet: no text, put where the rows begin.
     let mut end = put_words(buffer, at, b"");
     let mut row = 0;
     while row < rows {
-        let first = numbers * row;
+        let first = width * row;
         end = put_row(
             buffer,
             end,
             letter,
             row as u64 + 1,
-            &table[first..first + numbers],
+            &table[first..first + width],
         );
         row += 1;
     }
@@ -63,8 +63,8 @@ fn put_row(buffer: &mut [u8], at: usize, letter: &[u8], own: u64, numbers: &[u64
 }
 
 // How many whole rows a table has; none where a row has no numbers.
-fn rows_in(table: usize, numbers: usize) -> usize
-    ensures { λ r. ⌜ r ≡ table / numbers ⌝ }
+fn rows_in(table: usize, width: usize) -> usize
+    ensures { λ r. ⌜ r ≡ table / width ⌝ }
 {
-    if numbers == 0 { 0 } else { table / numbers }
+    if width == 0 { 0 } else { table / width }
 }

@@ -13,7 +13,7 @@ use records::Segment;
 // A row's letter and the end of its line.
 const ROW_SIGNS: usize = 2;
 
-// With these, a row's numbers behind that of its record.
+// The most bytes of a row: these signs, its record's own number and the numbers of the row.
 const PLANT_ROW: usize = ROW_SIGNS + MOST_SPACED * (1 + PLANT_NUMBERS);
 
 const SEGMENT_ROW: usize = ROW_SIGNS + MOST_SPACED * (1 + SEGMENT_NUMBERS);

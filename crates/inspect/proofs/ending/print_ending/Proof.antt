@@ -19,8 +19,8 @@ within c =
     let s = c .before .before .before .before .before .before .before in
     let a = s .args in
     let put = c .before .before .before .put-ending .ensures in
-    let room = end-room (now (a .file)) (a .cut) (a .at .place) (a .at .byte) (a .field) in
-    let text = pageEnd (now (a .file)) (a .cut) (a .at .place) (a .at .byte) (a .field) in
+    let room = end-room (now (a .file)) (a .cut) (a .spot .place) (a .spot .byte) (a .field) in
+    let text = pageEnd (now (a .file)) (a .cut) (a .spot .place) (a .spot .byte) (a .field) in
     omega (arith, put-near {text = text} mostPageText put room, put-length put, s .pre)
 
 -- ---- the needs

@@ -44,8 +44,8 @@ returns c =
     page-end
     (now (a .file))
     (a .cut)
-    (a .at .place)
-    (a .at .byte)
+    (a .spot .place)
+    (a .spot .byte)
     (a .field)
     (step .result .found)
     (reading .result .answer)

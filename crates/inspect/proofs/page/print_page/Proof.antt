@@ -18,11 +18,11 @@ use Rattle.inspect.proofs.page.print_page.Statement.{statement}
 use Rattle.inspect.proofs.page.print_page.Tie as tie
 
 abbrev Inv-loop : tie.InvT-loop
-Inv-loop room₀ file cut header end₀ place₀ at₀ t12 room end place at =
-    (place ≤ at) × (at ≤ length file) × (length room ≡ length room₀) × (end + mostPageText ≤ length room)
+Inv-loop room₀ file cut header end₀ place₀ byte₀ t12 room end place byte =
+    (place ≤ byte) × (byte ≤ length file) × (length room ≡ length room₀) × (end + mostPageText ≤ length room)
 
 abbrev μ-loop : tie.MeasureT-loop
-μ-loop room₀ file cut header end₀ place₀ at₀ t12 room end place at = length file - at
+μ-loop room₀ file cut header end₀ place₀ byte₀ t12 room end place byte = length file - byte
 
 -- ---- what is known when the line of a number is put
 abbrev Put-line : Type 0
@@ -31,7 +31,7 @@ Put-line = tie.After-slice-known3 Inv-loop μ-loop
 moved :
     (c : Put-line) →
     Bounds (now (c .before .before .before .before .before .before .before .before .before .before .before .before .before .args .file))
-    (c .before .before .before .before .before .before .before .before .before .loop .at)
+    (c .before .before .before .before .before .before .before .before .before .loop .byte)
     (c .before .before .before .before .before .found .given .0 .0)
     (c .before .before .before .before .before .before .before .before .step-at .result .at)
 moved c =
@@ -39,7 +39,7 @@ moved c =
     let step = c .before .before .before .before .before .before .before .before .step-at in
     moves-on
     (now (c .before .before .before .before .before .before .before .before .before .before .before .before .before .args .file))
-    (c .before .before .before .before .before .before .before .before .before .loop .at)
+    (c .before .before .before .before .before .before .before .before .before .loop .byte)
     (found .0 .0)
     (found .0 .1 .0)
     (step .result)
@@ -53,7 +53,7 @@ as-long c = put-length (c .before .before .put-number-line .ensures)
 within : (c : Put-line) → c .before .before .put-number-line .result ≤ length (c .before .before .put-number-line .last .0)
 within c =
     let l = c .before .before .before .before .before .before .before .before .before .loop in
-    let line = number-room (l .place) (l .at) (c .before .before .before .before .before .found .given .0 .0) (c .before .before .before .before .before .before .before .field-at .result) in
+    let line = number-room (l .place) (l .byte) (c .before .before .before .before .before .found .given .0 .0) (c .before .before .before .before .before .before .before .field-at .result) in
     omega (arith, put-near mostPageText (c .before .before .put-number-line .ensures) line, as-long c, l .inv .3)
 
 -- ---- the needs

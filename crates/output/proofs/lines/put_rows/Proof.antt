@@ -12,17 +12,17 @@ use Rattle.output.proofs.lines.put_rows.Statement.{statement}
 use Rattle.output.proofs.lines.put_rows.Tie as tie
 
 abbrev Inv-loop : tie.InvT-loop
-Inv-loop buffer₀ at letter table numbers rows end₀ row₀ buffer end row =
-    (row ≤ rows) × Put (rowsText letter numbers table row) end₀ buffer₀ end buffer
+Inv-loop buffer₀ at letter table width rows end₀ row₀ buffer end row =
+    (row ≤ rows) × Put (rowsText letter width table row) end₀ buffer₀ end buffer
 
 abbrev μ-loop : tie.MeasureT-loop
-μ-loop buffer₀ at letter table numbers rows end₀ row₀ buffer end row = rows - row
+μ-loop buffer₀ at letter table width rows end₀ row₀ buffer end row = rows - row
 
 -- ---- what is known when a row is due
 inside :
     (c : tie.After-put-row-arg Inv-loop μ-loop) → let a = c .before .before .before .before .before .before .before .before .before .before .before .before .args in
-    a .numbers * c .before .before .loop .row + a .numbers ≤ length (a .table .now)
-inside c = let a = c .before .before .before .before .before .before .before .before .before .before .before .before .args in row-within (length (a .table .now)) (a .numbers) (c .before .before .loop .row) (omega arith)
+    a .width * c .before .before .loop .row + a .width ≤ length (a .table .now)
+inside c = let a = c .before .before .before .before .before .before .before .before .before .before .before .before .args in row-within (length (a .table .now)) (a .width) (c .before .before .loop .row) (omega arith)
 
 -- ---- the needs
 rows-in-requires : tie.Need-rows-in-requires Inv-loop μ-loop
@@ -41,7 +41,7 @@ loop-holds c = (omega arith, put-nothing (c .before .before .put-words .ensures)
 mul-first : tie.Need-mul-first Inv-loop μ-loop
 mul-first c =
     let a = c .before .before .before .before .before .before .before .before .before .before .before .args in
-    omega (arith, row-within (length (a .table .now)) (a .numbers) (c .before .loop .row) (omega arith))
+    omega (arith, row-within (length (a .table .now)) (a .width) (c .before .loop .row) (omega arith))
 
 add-put-row : tie.Need-add-put-row Inv-loop μ-loop
 add-put-row c = omega arith
@@ -74,7 +74,7 @@ loop-again : tie.Need-loop-again Inv-loop μ-loop
 loop-again c =
     let args = c .before .before .before .before .before .before .before .before .before .before .before .before .before .before .before .before .args in
     let l = c .before .before .before .before .before .before .loop in
-    (omega arith, row-more (args .letter .now) (args .numbers) (args .table .now) (l .row) (l .inv .1) (c .before .before .put-row .ensures))
+    (omega arith, row-more (args .letter .now) (args .width) (args .table .now) (l .row) (l .inv .1) (c .before .before .put-row .ensures))
 
 returns : tie.Need-returns Inv-loop μ-loop
 returns c =
