@@ -20,9 +20,10 @@ answerText (refusal number place) = refusalText number place
 unfoldable pub printedDays : List ℕ → List ℕ
 printedDays sheet = answerText (meterDays sheet)
 
--- No more bytes are printed than the figures and the end of their line can take.
+-- how many figures the line has
 abbrev pub figuresOnTheLine : ℕ
 figuresOnTheLine = 5
 
+-- No more bytes are printed than these and the end of their line can take.
 abbrev pub mostDaysText : ℕ
 mostDaysText = mostSpaced * figuresOnTheLine + 1

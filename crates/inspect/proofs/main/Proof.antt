@@ -7,18 +7,16 @@ use native.Mathlib.Omega.{arith}
 use lib.ListN.{length}
 use lib.Seq.{length-take-le}
 use borrow.Author.Needs.{needs}
-use Rattle.input.specs.declared.Input.the-variants.{File}
-use Rattle.input.specs.Received.{Received}
+use Rattle.input.proofs.BytesRead.{bytes-within}
 use Rattle.inspect.proofs.main.Statement.{statement}
 use Rattle.inspect.proofs.main.Tie as tie
 
 -- ---- what is known when a file was read
-stands : (c : tie.After-input) → Received (File (c .input .given .0 .0)) (c .before .before .before .read-input .last .1 .0)
-stands c = rw (c .input .given .1) at (c .before .before .before .read-input .ensures)
-
 within : (c : tie.Joined1) → c .if1 .walked ≤ length (c .before .before .before .before .before .read-input .last .1 .0)
 within c =
-    ⊎-elim (λ cut. omega (arith, cut .1)) (λ whole. omega (arith, whole .1, stands (c .before .before) .0)) (c .if1 .came)
+    let read = c .before .before .before .before .before .read-input in
+    let inside = bytes-within (read .last .1 .0) (c .before .before .input .given .1) (read .ensures) in
+    ⊎-elim (λ cut. omega (arith, cut .1)) (λ whole. omega (arith, whole .1, inside)) (c .if1 .came)
 
 -- ---- the needs
 large-buffer-requires : tie.Need-large-buffer-requires

@@ -1,16 +1,10 @@
 -- `rows::main` is safe and ends: the bytes that were read stand at the start of the room. Assumes nothing.
 use native.Mathlib.Omega.{arith}
 use borrow.Author.Needs.{needs}
-use Rattle.input.specs.declared.Input.the-variants.{File}
-use Rattle.input.specs.Received.{Received}
+use Rattle.input.proofs.BytesRead.{bytes-within}
 use Rattle.rows.proofs.main.Statement.{statement}
 use Rattle.rows.proofs.main.Tie as tie
 
--- ---- what is known when a file was read
-stands : (c : tie.After-input) → Received (File (c .input .given .0 .0)) (c .before .before .before .read-input .last .1 .0)
-stands c = rw (c .input .given .1) at (c .before .before .before .read-input .ensures)
-
--- ---- the needs
 room-requires : tie.Need-room-requires
 room-requires c κs = search needs
 
@@ -36,7 +30,9 @@ slice-aggregate-print-answer : tie.Need-slice-aggregate-print-answer
 slice-aggregate-print-answer c = search needs
 
 print-answer-requires : tie.Need-print-answer-requires
-print-answer-requires c κs = (stands (c .before .before) .0, omega arith)
+print-answer-requires c κs =
+    let read = c .before .before .before .before .before .read-input in
+    (bytes-within (read .last .1 .0) (c .before .before .input .given .1) (read .ensures), omega arith)
 
 returns-2 : tie.Need-returns-2
 returns-2 c = search needs

@@ -1,0 +1,2 @@
+-- What callers go by after reading.
+pub mod BytesRead
