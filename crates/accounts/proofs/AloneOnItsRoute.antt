@@ -41,7 +41,7 @@ use Rattle.accounts.proofs.Meeting.{on-route-within, meet-exactly, othe
 -- ---- the row of a plant that is alone on its route, by its number, record, lines and route
 unfoldable rowAlone : (index : ℕ) (plant : Plant) (lines : List Line) (route : List Leg) → List ℕ
 rowAlone index plant lines route =
-    plantRow plant (lastOutflow (atFirst plant .amount) route) (emission plantOwner (suc index) lines + emissionsAlong route)
+    plantRow (plant .exported) (plant .fraction) (lastOutflow (atFirst plant .amount) route) (emission plantOwner (suc index) lines + emissionsAlong route)
 
 module _
     {period : Period} {plants segments : List ℕ} (means : Means period plants segments) (index : ℕ) (there : index < length (period .plants))
@@ -68,7 +68,7 @@ module _
       List·getD-map atFirst (period .plants) index noPlant in
       plant-row-at means index there
       ∙ ap₂
-      (plantRow (getD (period .plants) index noPlant))
+      (plantRow (getD (period .plants) index noPlant .exported) (getD (period .plants) index noPlant .fraction))
       (rw starts at (stored-alone (period .lines) index 1 (period .segments) (started period) undivided))
       (ap₂
       _+_

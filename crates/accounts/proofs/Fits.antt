@@ -73,7 +73,7 @@ row-entries at (number ∷ row) all (suc i) = row-entries (suc at) row (all .1) 
 -- a plant's, where no more is stored than was exported
 plant-row-fits :
     (counts : Counts) (own : ℕ) (plant : Plant) (stored associated : ℕ) → PlantWithin counts own plant → stored ≤ plant .exported →
-    associated ≤ largest + mostSegments * largest → EachFits 0 (plantRow plant stored associated)
+    associated ≤ largest + mostSegments * largest → EachFits 0 (plantRow (plant .exported) (plant .fraction) stored associated)
 unfolding Each
 plant-row-fits counts own plant stored associated within kept few =
     let fraction = mul-le-mul-left stored (within .fraction) in

@@ -93,7 +93,7 @@ module _ {one two : Period} (larger : OneLineLarger one two) where
 -- ---- the units of a plant that stores the same, where no less is associated with it
 units-no-more :
     (plant : Plant) (stored less more : ℕ) → less ≤ more →
-    getD (plantRow plant stored more) unitsColumn 0 ≤ getD (plantRow plant stored less) unitsColumn 0
+    getD (plantRow (plant .exported) (plant .fraction) stored more) unitsColumn 0 ≤ getD (plantRow (plant .exported) (plant .fraction) stored less) unitsColumn 0
 units-no-more plant stored less more h = div-mono kgInUnit _ _ (omega arith)
 
 -- so it is with the units in the plant's row

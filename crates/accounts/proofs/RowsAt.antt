@@ -44,17 +44,17 @@ plant-rows :
     (lines : List Line) (accounts : List Account) (from : ℕ) (plants : List Plant) (standings : List Standing) → length standings ≡ length plants →
     (index number : ℕ) → from + index ≡ number → index < length plants →
     rowAt plantNumbers index (plantRows lines accounts from plants standings)
-    ≡ plantRow (getD plants index noPlant) (getD standings index nowhere .amount) (associated lines accounts number)
+    ≡ plantRow (getD plants index noPlant .exported) (getD plants index noPlant .fraction) (getD standings index nowhere .amount) (associated lines accounts number)
 unfolding plantRows
 plant-rows lines accounts from [] standings long index number at below = absurd (omega (arith, below))
 plant-rows lines accounts from (plant ∷ plants) [] long index number at below = absurd (omega (arith, long))
 plant-rows lines accounts from (plant ∷ plants) (standing ∷ standings) long zero number at below =
     let here : from ≡ number = omega (arith, at) in
-    first-row plantNumbers (plantRow plant (standing .amount) (associated lines accounts from)) (plantRows lines accounts (suc from) plants standings) refl
-    ∙ ap (λ (n : ℕ). plantRow plant (standing .amount) (associated lines accounts n)) here
+    first-row plantNumbers (plantRow (plant .exported) (plant .fraction) (standing .amount) (associated lines accounts from)) (plantRows lines accounts (suc from) plants standings) refl
+    ∙ ap (λ (n : ℕ). plantRow (plant .exported) (plant .fraction) (standing .amount) (associated lines accounts n)) here
 plant-rows lines accounts from (plant ∷ plants) (standing ∷ standings) long (suc index) number at below =
     next-row
-    plantNumbers (plantRow plant (standing .amount) (associated lines accounts from)) (plantRows lines accounts (suc from) plants standings) refl index
+    plantNumbers (plantRow (plant .exported) (plant .fraction) (standing .amount) (associated lines accounts from)) (plantRows lines accounts (suc from) plants standings) refl index
     ∙ plant-rows lines accounts (suc from) plants standings (omega (arith, long)) index number (omega (arith, at)) (omega (arith, below))
 
 -- ---- the segments' rows
@@ -97,7 +97,7 @@ module _ {period : Period} {plants segments : List ℕ} (means : Means period pl
   pub plant-row-at :
       (index : ℕ) → index < length (period .plants) →
       rowAt plantNumbers index plants
-      ≡ plantRow (getD (period .plants) index noPlant) (getD (stores period) index nowhere .amount) (associated (period .lines) (accountsOf period) index)
+      ≡ plantRow (getD (period .plants) index noPlant .exported) (getD (period .plants) index noPlant .fraction) (getD (stores period) index nowhere .amount) (associated (period .lines) (accountsOf period) index)
   plant-row-at index below =
       ap (rowAt plantNumbers index) (means .plants-are)
       ∙ plant-rows

@@ -14,14 +14,14 @@ abbrev pub kgInUnit : ℕ
 kgInUnit = 1000
 
 -- A plant's row. Gross and units are rounded down; of net and deficit one at least is 0, since the library's m - n is 0 where n is larger.
-abbrev pub plantRow : Plant → (stored associated : ℕ) → List ℕ
-plantRow plant stored associated =
-    let lost = plant .exported - stored in
-    let gross = stored * plant .fraction / millionths in
+abbrev pub plantRow : (exported fraction stored associated : ℕ) → List ℕ
+plantRow exported fraction stored associated =
+    let lost = exported - stored in
+    let gross = stored * fraction / millionths in
     let net = gross - associated in
     let units = net / kgInUnit in
     let deficit = associated - gross in
-    plant .exported ∷ stored ∷ lost ∷ gross ∷ associated ∷ net ∷ units ∷ deficit ∷ []
+    exported ∷ stored ∷ lost ∷ gross ∷ associated ∷ net ∷ units ∷ deficit ∷ []
 
 -- what is associated with the plant at an index from 0: what it emits, and what it is charged
 abbrev pub associated : List Line → List Account → ℕ → ℕ
@@ -32,7 +32,7 @@ unfoldable pub plantRows : List Line → List Account → ℕ → List Plant →
 plantRows lines accounts index [] arrived = []
 plantRows lines accounts index (plant ∷ plants) [] = []
 plantRows lines accounts index (plant ∷ plants) (standing ∷ arrived) =
-    plantRow plant (standing .amount) (associated lines accounts index) ++ plantRows lines accounts (suc index) plants arrived
+    plantRow (plant .exported) (plant .fraction) (standing .amount) (associated lines accounts index) ++ plantRows lines accounts (suc index) plants arrived
 
 -- A segment's row: what came in, what went out, what was lost there, what it emits, and who passes.
 abbrev pub segmentRow : (inflow outflow emission plants : ℕ) → List ℕ

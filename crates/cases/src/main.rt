@@ -11,8 +11,6 @@ mod case;
 mod numbers;
 mod readings;
 
-ghost use Prim.Native.Nat.{_≤_};
-ghost use lib.ListN.{length};
 use crate::case::Head;
 use crate::case::Kind;
 use crate::case::next_head;
@@ -23,23 +21,24 @@ use input::read_input;
 use output::complain;
 use output::print;
 
-// The room, for a case's file and then for its line, is made once and lent to every case.
+// The rooms, for a case's file and for its line, are made once and lent to every case.
 fn main() {
     let mut room = io::large_buffer();
-    answer_all(&mut room);
+    let mut text = io::large_buffer();
+    answer_all(&mut room, &mut text);
 }
 
 // A proved loop has to end, and nothing says that the input does. So the loop counts its turns down,
 // from a number that no run uses up.
-fn answer_all(room: &mut [u8]) {
+fn answer_all(room: &mut [u8], text: &mut [u8]) {
     let mut turns = u64::MAX;
-    while 0 < turns && answer(room) {
+    while 0 < turns && answer(room, text) {
         turns -= 1;
     }
 }
 
 // Answers the next case, and says whether to go on.
-fn answer(room: &mut [u8]) -> bool {
+fn answer(room: &mut [u8], text: &mut [u8]) -> bool {
     let head = next_head();
     let Head::Whole { kind, count } = head else {
         return false;
@@ -51,8 +50,8 @@ fn answer(room: &mut [u8]) -> bool {
     if !take_file(&mut room[..count]) {
         return false;
     }
-    let end = put_answer(room, count, kind);
-    print_front(room, end)
+    let end = put_answer(text, &room[..count], kind);
+    print_front(text, end)
 }
 
 // Reads a case's file, of just the count that is lent, and answers whether it is whole.
@@ -68,17 +67,15 @@ fn take_file(file: &mut [u8]) -> bool {
     true
 }
 
-// Puts the line of a case into the room, in the place of its file, by what its kind asks of that file.
-fn put_answer(room: &mut [u8], count: usize, kind: Kind) -> usize
-    requires { ⌜ count ≤ length (now room) ⌝ }
-{
+// Puts the line of a case, by what its kind asks of its file.
+fn put_answer(text: &mut [u8], file: &[u8], kind: Kind) -> usize {
     match kind {
-        Kind::Number { at } => put_found(room, count, at),
-        Kind::Period => put_reading(room, count),
+        Kind::Number { at } => put_found(text, file, at),
+        Kind::Period => put_reading(text, file),
     }
 }
 
-// Prints the front of the room, where a line was put, and answers whether it could be written. A line
+// Prints the front of the text, where a line was put, and answers whether it could be written. A line
 // that ends past the room is not whole: that is said, and nothing is printed.
 fn print_front(text: &[u8], end: usize) -> bool {
     if text.len() < end {

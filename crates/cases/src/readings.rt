@@ -1,9 +1,9 @@
-// The line of a period case: all numbers that were read from its file, or the line of a refused file.
+// The line of a period case: all numbers that are read from its file, or the line of a refused file.
 //
-// A loop stops at its array's end too, so that it is seen to stay within the array.
-ghost use Prim.Native.Nat.{_≤_};
-ghost use lib.ListN.{length};
+// Records are put as they are read. A loop ends where one is refused, which none is in a file that is
+// accepted.
 use fields::Answer;
+use fields::Spot;
 use output::put_refusal;
 use output::put_spaced;
 use output::put_words;
@@ -11,49 +11,69 @@ use records::Counts;
 use records::Header;
 use records::Line;
 use records::Plant;
-use records::Reading;
+use records::ReadHeader;
+use records::ReadLine;
+use records::ReadPlant;
+use records::ReadSegment;
 use records::Segment;
-use records::read;
+use records::read_header;
+use records::read_line;
+use records::read_plant;
+use records::read_segment;
+use records::verdict;
 
-// Puts the line of the period file in so many bytes of the room.
-pub(crate) fn put_reading(room: &mut [u8], count: usize) -> usize
-    requires { ⌜ count ≤ length (now room) ⌝ }
-{
-    let reading = read(&room[..count]);
-    let answer = reading.answer;
-    if let Answer::Refused(refusal) = answer {
-        return put_refusal(room, 0, refusal);
-    }
-    put_accepted(room, reading)
+// How far a line is put: where its text ends so far, and where the next record starts in the file.
+struct Along {
+    end: usize,
+    next: Spot,
 }
 
-// Puts the line of a file that was read: A, and its numbers in file order.
-fn put_accepted(text: &mut [u8], reading: Reading) -> usize {
+// Puts the line of a period file. It is first asked whether the file is read to its end: of a refused
+// one no record is told.
+pub(crate) fn put_reading(text: &mut [u8], file: &[u8]) -> usize {
+    if let Answer::Refused(refusal) = verdict(file) {
+        return put_refusal(text, 0, refusal);
+    }
+    match read_header(file) {
+        ReadHeader::Refused(refusal) => put_refusal(text, 0, refusal),
+        ReadHeader::Whole(counts, next) => put_accepted(text, file, counts, next),
+    }
+}
+
+// Puts the line of a file that is read to its end: its numbers in file order. The first record behind the
+// header starts at a spot.
+fn put_accepted(text: &mut [u8], file: &[u8], counts: Counts, next: Spot) -> usize {
+    let end = put_header(text, counts);
+    let along = put_plants(text, file, counts, Along { end, next });
+    let along = put_segments(text, file, counts, along);
+    let along = put_lines(text, file, counts, along);
+    put_words(text, along.end, b"\n")
+}
+
+// Puts the start of the line: A, the edition and the counts of the header.
+fn put_header(text: &mut [u8], counts: Counts) -> usize {
     let end = put_words(text, 0, b"A");
     let end = put_spaced(text, end, Header::EDITION);
-    let end = put_counts(text, end, reading.counts);
-    let end = put_plants(text, end, reading);
-    let end = put_segments(text, end, reading);
-    let end = put_lines(text, end, reading);
-    put_words(text, end, b"\n")
-}
-
-// Puts the counts of the header, behind the edition.
-fn put_counts(text: &mut [u8], at: usize, counts: Counts) -> usize {
-    let end = put_spaced(text, at, counts.plants);
+    let end = put_spaced(text, end, counts.plants);
     let end = put_spaced(text, end, counts.segments);
     put_spaced(text, end, counts.lines)
 }
 
-// Puts the fields of all plants.
-fn put_plants(text: &mut [u8], at: usize, reading: Reading) -> usize {
-    let mut end = at;
+// Puts the fields of all plants, from where the line is put on.
+fn put_plants(text: &mut [u8], file: &[u8], counts: Counts, start: Along) -> Along {
+    let mut end = start.end;
+    let mut at = start.next;
     let mut p = 0;
-    while p < Plant::MOST && p < reading.counts.plants as usize {
-        end = put_plant_fields(text, end, reading.plants[p]);
+    while p < counts.plants {
+        let found = read_plant(file, at, counts);
+        let ReadPlant::Whole(plant, next) = found else {
+            return Along { end, next: at };
+        };
+        end = put_plant_fields(text, end, plant);
+        at = next;
         p += 1;
     }
-    end
+    Along { end, next: at }
 }
 
 // Puts the fields of a plant, in file order.
@@ -63,15 +83,21 @@ fn put_plant_fields(text: &mut [u8], at: usize, plant: Plant) -> usize {
     put_spaced(text, end, plant.fraction as u64)
 }
 
-// Puts the fields of all segments.
-fn put_segments(text: &mut [u8], at: usize, reading: Reading) -> usize {
-    let mut end = at;
+// The same of all segments, each of which is read by its own number.
+fn put_segments(text: &mut [u8], file: &[u8], counts: Counts, start: Along) -> Along {
+    let mut end = start.end;
+    let mut at = start.next;
     let mut s = 0;
-    while s < Segment::MOST && s < reading.counts.segments as usize {
-        end = put_segment_fields(text, end, reading.segments[s]);
+    while s < counts.segments {
+        let found = read_segment(file, at, s + 1, counts);
+        let ReadSegment::Whole(segment, next) = found else {
+            return Along { end, next: at };
+        };
+        end = put_segment_fields(text, end, segment);
+        at = next;
         s += 1;
     }
-    end
+    Along { end, next: at }
 }
 
 // Puts the fields of a segment, in file order.
@@ -81,15 +107,21 @@ fn put_segment_fields(text: &mut [u8], at: usize, segment: Segment) -> usize {
     put_spaced(text, end, segment.next as u64)
 }
 
-// Puts the fields of all lines.
-fn put_lines(text: &mut [u8], at: usize, reading: Reading) -> usize {
-    let mut end = at;
+// The same of all lines.
+fn put_lines(text: &mut [u8], file: &[u8], counts: Counts, start: Along) -> Along {
+    let mut end = start.end;
+    let mut at = start.next;
     let mut l = 0;
-    while l < Line::MOST && l < reading.counts.lines as usize {
-        end = put_line_fields(text, end, reading.lines[l]);
+    while l < counts.lines {
+        let found = read_line(file, at, counts);
+        let ReadLine::Whole(line, next) = found else {
+            return Along { end, next: at };
+        };
+        end = put_line_fields(text, end, line);
+        at = next;
         l += 1;
     }
-    end
+    Along { end, next: at }
 }
 
 // Puts the fields of a line, in file order.

@@ -1,19 +1,27 @@
--- The numbers that a reader consumes of a file, by what it gives.
-use Prim.Native.Nat.{ℕ, zero, suc}
-use mathlib.Core.Path.{_≡_, refl, ap}
-use mathlib.Core.Bool.{true}
+-- The numbers that a reader consumes of a file, by what it gives; and what is known of what it gives.
+use Prim.Native.Nat.{ℕ, zero, suc, _≤_}
+use mathlib.Core.Path.{_≡_, refl, sym, ap, _∙_}
+use mathlib.Core.Bool.{Bool, true, false, true≢false}
 use mathlib.Core.List.{List, [], _∷_, _++_, append-nil}
 use lib.ListN.{length, drop}
+use Rattle.number.specs.Groups.{largest}
+use Rattle.number.specs.Reading.{Found, readAt}
+use Rattle.number.specs.Reading.Found.{number as oneNumber, fault as oneFault}
+use Rattle.number.proofs.Laws.{bounds}
+use Rattle.fields.specs.declared.spot.Spot.{Spot}
 use Rattle.fields.specs.Run.{Run, run}
 use Rattle.fields.specs.Readers.{Reader, return, needs, _>>=_, each, read, consumes}
-use Rattle.fields.specs.Lists.{inTurn}
+use Rattle.fields.specs.Spots.{placeAfter}
+use Rattle.fields.specs.Reaching.{whole, readsFrom}
+use Rattle.fields.specs.Lists.{Each, inTurn}
 use Rattle.fields.proofs.Runs.{number-at}
 use Rattle.fields.proofs.FieldByField.{Comes, done as all-read, goes}
+use Rattle.fields.proofs.Reaching.{spot-passed, spot-wrong, spot-fault}
 
 -- ---- whatever allowed numbers a reader takes, they and what it gives have a property
 unfoldable pub Gives : {A : Type 0} → (List ℕ → A → Type 0) → Reader A → Type 0
 Gives P (return what) = P [] what
-Gives P (needs reason allowed then) = (value : ℕ) → allowed value ≡ true → Gives (λ more. P (value ∷ more)) (then value)
+Gives P (needs reason allowed then) = (value : ℕ) → value ≤ largest → allowed value ≡ true → Gives (λ more. P (value ∷ more)) (then value)
 
 -- so have the numbers that it consumes of a file and what reading comes to
 pub consumed-has :
@@ -21,7 +29,32 @@ pub consumed-has :
     Comes file reader place at (read what end rest) → P (consumes reader (run (drop at file))) what
 unfolding Gives consumes
 consumed-has P given all-read = given
-consumed-has {file} P given (goes {at} {v} {n} e h later) = rw (number-at file at v n e, h) (consumed-has (λ more. P (v ∷ more)) (given v h) later)
+consumed-has {file} P given (goes {at} {v} {n} e h later) =
+    rw (number-at file at v n e, h) (consumed-has (λ more. P (v ∷ more)) (given v (bounds file at v n e .small) h) later)
+
+-- and what it gives has it, from whatever spot it is read
+pub whole-has :
+    {A : Type 0} (P : A → Type 0) (file : List ℕ) (reader : Reader A) (at : Spot) (what : A) (next : Spot) → Gives (λ numbers. P) reader →
+    readsFrom reader file at ≡ whole what next → P what
+unfolding Gives readsFrom
+whole-has P file (return one) at what next given e = let same : one ≡ what = cc in rw same at given
+whole-has P file (needs reason allowed then) at what next given e =
+    by-number (readAt file (at .byte)) refl (λ v to its rest. whole-has P file (then v) to what next its rest)
+  where
+    by-number :
+        (found : Found) → readAt file (at .byte) ≡ found →
+        ((v : ℕ) (to : Spot) → Gives (λ numbers. P) (then v) → readsFrom (then v) file to ≡ whole what next → P what) → P what
+    by-number (oneFault k) is again = absurd (true≢false (cc (spot-fault file reason allowed then at k is)))
+    by-number (oneNumber v n) is again = by-test (allowed v) refl
+      where
+        by-test : (t : Bool) → allowed v ≡ t → P what
+        by-test true h =
+            let to : Spot = record { byte = n; place = placeAfter (at .place) } in
+            again v to (given v (bounds file (at .byte) v n is .small) h)
+            (sym (spot-passed file reason allowed then at v to (record { stands = is; place-on = refl }) h) ∙ e)
+        by-test false h =
+            let to : Spot = record { byte = n; place = placeAfter (at .place) } in
+            absurd (true≢false (cc (spot-wrong file reason allowed then at v to (record { stands = is; place-on = refl }) h)))
 
 -- what follows from the property they have as well
 pub gives-on :
@@ -30,7 +63,7 @@ pub gives-on :
 unfolding Gives
 gives-on P Q (return what) then given = then [] what given
 gives-on P Q (needs reason allowed more) then given =
-    λ value passed. gives-on (λ all. P (value ∷ all)) (λ all. Q (value ∷ all)) (more value) (λ all. then (value ∷ all)) (given value passed)
+    λ value small passed. gives-on (λ all. P (value ∷ all)) (λ all. Q (value ∷ all)) (more value) (λ all. then (value ∷ all)) (given value small passed)
 
 -- one reader after another
 pub gives-then :
@@ -39,8 +72,19 @@ pub gives-then :
 unfolding Gives
 gives-then P Q (return what) then given rest = rest [] what given
 gives-then P Q (needs reason allowed more) then given rest =
-    λ value passed.
-    gives-then (λ all. P (value ∷ all)) (λ all. Q (value ∷ all)) (more value) then (given value passed) (λ numbers. rest (value ∷ numbers))
+    λ value small passed.
+    gives-then (λ all. P (value ∷ all)) (λ all. Q (value ∷ all)) (more value) then (given value small passed) (λ numbers. rest (value ∷ numbers))
+
+-- so many records, each of which has its property
+pub gives-each :
+    {A : Type 0} (P : ℕ → A → Type 0) (one : ℕ → Reader A) → ((own : ℕ) → Gives (λ numbers. P own) (one own)) →
+    (own count : ℕ) → Gives (λ numbers all. (length all ≡ count) × Each P own all) (each one own count)
+unfolding Gives each Each
+gives-each P one has own zero = (refl, tt)
+gives-each P one has own (suc count) =
+    gives-then _ _ (one own) _ (has own) (λ front what its.
+    gives-then _ _ (each one (suc own) count) _ (gives-each P one has (suc own) count) (λ behind rest are.
+    (ap suc (are .0), (its, are .1))))
 
 -- ---- the numbers that a reader takes are those of what it gives
 abbrev pub Consumes : {A : Type 0} → (A → List ℕ) → Reader A → Type 0

@@ -17,9 +17,9 @@ use Rattle.fields.specs.Reasons.{numberOf}
 use Rattle.fields.specs.Answers.{accepts, refuses, refusing, said}
 use Rattle.fields.specs.Run.{Run, over, fault, number, run}
 use Rattle.fields.specs.Readers.{Reader, return, needs, _>>=_, Read, read, refused, reads}
-use Rattle.fields.specs.Files.{ended}
+use Rattle.fields.specs.Files.{ended, readVerdict}
 use Rattle.fields.specs.Spots.{endAt}
-use Rattle.fields.specs.Stages.{readTo, refusedBy}
+use Rattle.fields.specs.Reaching.{readTo, refusedBy}
 use Rattle.fields.proofs.Runs.{run-over, run-on}
 
 -- ---- one reader after another
@@ -71,6 +71,16 @@ module _ {A : Type 0} (what : A) (place : ℕ) (file : List ℕ) (at : ℕ) wher
   -- none are left
   pub none-left : length file ≤ at → ended (read what place (run (drop at file))) ≡ read what place over
   none-left h = ap (λ (left : Run). ended (read what place left)) (ap run (drop-of-length-le file h) ∙ run-over)
+
+-- so says the end of a file that was read up to a spot
+pub end-verdict : {A : Type 0} (file : List ℕ) (at : Spot) (what : A) → readVerdict (ended (readTo file what at)) ≡ endAt file at
+end-verdict file at what = by-end (decLe (length file) (at .byte))
+  where
+    by-end : Dec (length file ≤ at .byte) → readVerdict (ended (readTo file what at)) ≡ endAt file at
+    by-end (yes h) = rw (none-left what (at .place) file (at .byte) h, le-ltb (at .byte) (length file) h) refl
+    by-end (no h) =
+        let more : at .byte < length file = omega arith in
+        rw (more-left what (at .place) file (at .byte) more, lt-ltb (at .byte) (length file) more) refl
 
 -- ---- what the code's `nothing_after` says of it
 module _ {A : Type 0} (file : List ℕ) (at : Spot) (answer : Answer) (is : said answer ≡ endAt file at) (what : A) where

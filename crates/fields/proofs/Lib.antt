@@ -7,8 +7,9 @@ pub mod Answers
 pub mod Runs
 pub mod FieldByField
 pub mod EndOfFile
--- What the code takes, for one field, the numbers of one record, and records one after another.
+-- What the code takes, from a spot on: for one field, the numbers of one record, and records one after another.
 pub mod Takes
+pub mod Reaching
 pub mod OneField
 pub mod ByIndex
 pub mod OneRecord

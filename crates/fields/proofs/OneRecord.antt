@@ -1,11 +1,11 @@
 -- The numbers of one record, taken one after another: one law for each way through a turn of that loop, over any record.
-use Prim.Native.Nat.{ℕ, suc, _+_, _^_, _≤_, _<_}
+use Prim.Native.Nat.{ℕ, _+_, _≤_, _<_}
 use mathlib.Core.Path.{_≡_, refl, sym, ap, _∙_}
 use mathlib.Core.Bool.{Bool, true, false}
 use mathlib.Core.List.{List, [], _∷_, _++_}
 use native.Mathlib.Numerals.{add-one}
 use native.Mathlib.Omega.{arith}
-use lib.ListN.{length, getD, take, drop, set, replicate, length-set, length-replicate, getD-replicate}
+use lib.ListN.{length, getD, take, set, replicate, length-set, length-replicate, getD-replicate}
 use lib.Seq.{take-all, take-suc-set, length-take-le}
 use Rattle.number.specs.Groups.{largest}
 use Rattle.number.proofs.Laws.{bounds}
@@ -14,12 +14,11 @@ use Rattle.fields.specs.declared.reason.Reason.{Reason}
 use Rattle.fields.specs.declared.reason.Reason.the-variants.{Ends}
 use Rattle.fields.specs.declared.spot.Spot.{Spot}
 use Rattle.fields.specs.Reasons.{numberOf}
-use Rattle.fields.specs.Run.{run}
-use Rattle.fields.specs.Readers.{Reader, return, needs, refused, reads, onward, allowsNext}
-use Rattle.fields.specs.Spots.{refusalAt, readsAt}
-use Rattle.fields.specs.Stages.{readTo, refusedBy}
-use Rattle.fields.proofs.FieldByField.{field-passed, field-wrong, field-faulty}
-use Rattle.fields.proofs.Takes.{one-place-on, ValueThere, FaultThere}
+use Rattle.fields.specs.Readers.{Reader, return, needs, onward, allowsNext}
+use Rattle.fields.specs.Spots.{refusalAt}
+use Rattle.fields.specs.Reaching.{whole, stopped, readsFrom, stoppedBy}
+use Rattle.fields.proofs.Takes.{ValueThere, FaultThere}
+use Rattle.fields.proofs.Reaching.{spot-passed, spot-wrong, spot-faulty}
 
 module _ {A : Type 0} where
   -- ---- a record: a reader that wants a number for each of these reasons, and no more, whatever the numbers are
@@ -76,25 +75,24 @@ module _ {A : Type 0} where
     pub record Numbers (values : List ℕ) (at : Spot) (f : ℕ) : Type 0 where
       pub sized : length values ≡ wanted
       pub within : f ≤ wanted
-      pub place-is : at .place ≡ start .place + f
-      pub comes-to : readsAt reader file start ≡ readsAt (onward reader (take f values)) file at
+      pub comes-to : readsFrom reader file start ≡ readsFrom (onward reader (take f values)) file at
       pub allowed : Allowed reader (take f values)
 
     -- before the first turn none is taken
     pub none-taken : (values : List ℕ) → length values ≡ wanted → Numbers values start 0
     unfolding onward Allowed
-    none-taken values sized = record { sized = sized; within = omega arith; place-is = omega arith; comes-to = refl; allowed = tt }
+    none-taken values sized = record { sized = sized; within = omega arith; comes-to = refl; allowed = tt }
 
   module _
       {reader : Reader A} {file : List ℕ} {start : Spot} {wanted : ℕ} {values : List ℕ} {at : Spot} {f : ℕ}
       (so-far : Numbers reader file start wanted values at f) where
     -- all are taken, and nothing else is wanted: what was read
-    pub all-taken : (what : A) → wanted ≤ f → onward reader values ≡ return what → readsAt reader file start ≡ readTo file what at
-    unfolding reads
+    pub all-taken : (what : A) → wanted ≤ f → onward reader values ≡ return what → readsFrom reader file start ≡ whole what at
+    unfolding readsFrom
     all-taken what all is =
         so-far .comes-to
-        ∙ ap (λ (l : List ℕ). readsAt (onward reader l) file at) (take-all f values (omega (arith, so-far .sized)))
-        ∙ ap (λ (r : Reader A). readsAt r file at) is
+        ∙ ap (λ (l : List ℕ). readsFrom (onward reader l) file at) (take-all f values (omega (arith, so-far .sized)))
+        ∙ ap (λ (r : Reader A). readsFrom r file at) is
 
     -- and all were allowed
     pub all-allowed : wanted ≤ f → Allowed reader values
@@ -111,32 +109,27 @@ module _ {A : Type 0} where
       next-needed = rw before-length at (onward-needs reasons reader (take f values) wants (omega (arith, before-length)))
 
       -- it has a fault
-      pub next-faulty : (refusal : Refusal) → FaultThere file at refusal → readsAt reader file start ≡ refusedBy refusal
+      pub next-faulty : (refusal : Refusal) → FaultThere file at refusal → readsFrom reader file start ≡ stoppedBy refusal
       next-faulty refusal there = so-far .comes-to ∙ by-need (onward reader (take f values)) next-needed
         where
-          by-need : {reason : Reason} (rest : Reader A) → Needing rest reason → readsAt rest file at ≡ refusedBy refusal
-          by-need (needs reason allowed then) needing =
-              field-faulty file reason allowed then (at .place) (at .byte) (numberOf (refusal .reason)) (there .stands)
-              ∙ ap (refused (numberOf (refusal .reason))) (sym (there .place-is))
+          by-need : {reason : Reason} (rest : Reader A) → Needing rest reason → readsFrom rest file at ≡ stoppedBy refusal
+          by-need (needs reason allowed then) needing = spot-faulty file reason allowed then at refusal there
 
       module _ (v : ℕ) (next : Spot) (there : ValueThere file at v next) where
         -- its field does not allow it
         pub next-wrong :
-            allowsNext (onward reader (take f values)) v ≡ false → readsAt reader file start ≡ refused (numberOf (getD reasons f Ends)) (at .place)
+            allowsNext (onward reader (take f values)) v ≡ false → readsFrom reader file start ≡ stopped (numberOf (getD reasons f Ends)) (at .place)
         next-wrong wrong = so-far .comes-to ∙ by-need (onward reader (take f values)) next-needed wrong
           where
             by-need :
                 {reason : Reason} (rest : Reader A) → Needing rest reason → allowsNext rest v ≡ false →
-                readsAt rest file at ≡ refused (numberOf reason) (at .place)
-            by-need (needs reason allowed then) needing is =
-                field-wrong file reason allowed then (at .place) (at .byte) v (next .byte) (there .stands) is
+                readsFrom rest file at ≡ stopped (numberOf reason) (at .place)
+            by-need (needs reason allowed then) needing is = spot-wrong file reason allowed then at v next there is
 
         -- it is allowed: one number more is taken
         pub next-taken :
-            start .place + wanted < 2 ^ 64 → allowsNext (onward reader (take f values)) v ≡ true →
-            Numbers reader file start wanted (set values f v) next (f + 1)
-        next-taken small passed =
-            let place-on : next .place ≡ suc (at .place) = there .place-on ∙ one-place-on (at .place) (omega (arith, so-far .place-is)) in
+            allowsNext (onward reader (take f values)) v ≡ true → Numbers reader file start wanted (set values f v) next (f + 1)
+        next-taken passed =
             let taken : take (f + 1) (set values f v) ≡ take f values ++ (v ∷ []) =
             ap (λ (n : ℕ). take n (set values f v)) (add-one f) ∙ take-suc-set values f v (omega (arith, so-far .sized)) in
             let on : onward reader (take (f + 1) (set values f v)) ≡ oneOn (onward reader (take f values)) v =
@@ -144,27 +137,24 @@ module _ {A : Type 0} where
             record {
               sized = length-set values f v ∙ so-far .sized;
               within = omega arith;
-              place-is = omega (arith, place-on, so-far .place-is);
               comes-to =
                   so-far .comes-to
-                  ∙ by-need (onward reader (take f values)) next-needed passed place-on
-                  ∙ ap (λ (r : Reader A). readsAt r file next) (sym on);
+                  ∙ by-need (onward reader (take f values)) next-needed passed
+                  ∙ ap (λ (r : Reader A). readsFrom r file next) (sym on);
               allowed =
                   rw taken
                   (allowed-one reader (take f values) v next-needed (so-far .allowed) (bounds file (at .byte) v (next .byte) (there .stands) .small) passed);
             }
           where
             by-need :
-                {reason : Reason} (rest : Reader A) → Needing rest reason → allowsNext rest v ≡ true → next .place ≡ suc (at .place) →
-                readsAt rest file at ≡ readsAt (oneOn rest v) file next
-            by-need (needs reason allowed then) needing is on =
-                field-passed file reason allowed then (at .place) (at .byte) v (next .byte) (there .stands) is
-                ∙ ap (λ (p : ℕ). reads (then v) p (run (drop (next .byte) file))) (sym on)
+                {reason : Reason} (rest : Reader A) → Needing rest reason → allowsNext rest v ≡ true →
+                readsFrom rest file at ≡ readsFrom (oneOn rest v) file next
+            by-need (needs reason allowed then) needing is = spot-passed file reason allowed then at v next there is
 
     -- of a record whose fields all have one reason, a number that its field does not allow is refused for that
     pub one-wrong :
         (reason : Reason) → Wants (replicate wanted reason) reader → f < wanted → (v : ℕ) (next : Spot) → ValueThere file at v next →
-        allowsNext (onward reader (take f values)) v ≡ false → readsAt reader file start ≡ refusedBy (refusalAt at reason)
+        allowsNext (onward reader (take f values)) v ≡ false → readsFrom reader file start ≡ stoppedBy (refusalAt at reason)
     one-wrong reason wants more v next there wrong =
         next-wrong (replicate wanted reason) wants (length-replicate wanted reason) more v next there wrong
-        ∙ ap (λ (r : Reason). refused (numberOf r) (at .place)) (getD-replicate wanted f reason Ends more)
+        ∙ ap (λ (r : Reason). stopped (numberOf r) (at .place)) (getD-replicate wanted f reason Ends more)

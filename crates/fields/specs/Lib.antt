@@ -10,8 +10,8 @@ pub mod Readers
 pub mod Files
 -- its tests, each at its place
 pub mod Tests
--- a spot in it, and what is taken there
+-- a spot in it, what is taken there, and what a reader comes to from there on
 pub mod Spots
--- lists of records, and stages that read them
+pub mod Reaching
+-- lists of records
 pub mod Lists
-pub mod Stages

@@ -3,7 +3,7 @@ use Prim.Native.Nat.{ℕ, _+_, _%_, _^_}
 use mathlib.Core.Bool.{cond}
 use mathlib.Core.List.{List}
 use lib.Dec.{ltb}
-use lib.ListN.{length, drop}
+use lib.ListN.{length}
 use Rattle.number.specs.Reading.{Found, readAt}
 use Rattle.number.specs.Reading.Found.{number, fault}
 use Rattle.fields.specs.declared.answer.Refusal.{Refusal}
@@ -14,8 +14,6 @@ use Rattle.fields.specs.declared.taking.Taken.{Taken}
 use Rattle.fields.specs.declared.taking.Taken.the-variants as Taken
 use Rattle.fields.specs.Reasons.{numberOf}
 use Rattle.fields.specs.Answers.{Verdict, accepts, refuses}
-use Rattle.fields.specs.Run.{run}
-use Rattle.fields.specs.Readers.{Reader, Read, reads}
 
 -- The spot of the first number.
 abbrev pub firstSpot : Spot
@@ -50,7 +48,3 @@ took (Taken.Refused r) = refusal (numberOf (r .reason)) (r .place)
 -- Behind the last number: bytes that follow are refused, with the count of numbers as place.
 abbrev pub endAt : List ℕ → Spot → Verdict
 endAt file at = cond (ltb (at .byte) (length file)) (refuses (numberOf BytesAfter) (at .place)) accepts
-
--- A reader put to a file from a spot on.
-abbrev pub readsAt : {A : Type 0} → Reader A → List ℕ → Spot → Read A
-readsAt reader file at = reads reader (at .place) (run (drop (at .byte) file))

@@ -1,18 +1,13 @@
--- Numbers as bytes in a table: one law for each turn of the loop that writes a number; and the bytes of several, as rows of one length.
-use Prim.Native.Nat.{ℕ, zero, suc, _+_, _-_, _*_, _/_, _%_, _≤_, _<_}
+-- Numbers as bytes in a table: how many there are, and one number more behind others.
+use Prim.Native.Nat.{ℕ, zero, suc, _+_, _*_, _/_, _≤_, _<_}
 use mathlib.Core.Path.{_≡_, refl, sym, ap, _∙_}
 use mathlib.Core.List.{List, [], _∷_, _++_, append-assoc, append-nil, flatMap}
+use native.Mathlib.Numerals.{add-one}
 use native.Mathlib.Omega.{arith}
-use lib.ListN.{length, take, drop, getD, set, length-append, length-set}
-use lib.Seq.{take-all, take-suc, drop-cons, paste, paste-zero, paste-suc}
+use lib.ListN.{length, take, drop, getD, length-append, take-append-drop}
+use lib.Seq.{take-length, take-at, drop-at, drop-drop, length-take-le}
+use Rattle.period.proofs.RowsWritten.{flat-length, flat-on}
 use Rattle.historian.specs.Tables.{numberBytes, byteValues, bytesOf, eightBytes}
-
--- ---- one number: so far b of its bytes are written at a place of the table, and what is left of it has the others
-pub record BytesWritten (table : List ℕ) (at number : ℕ) (written : List ℕ) (left b : ℕ) : Type 0 where
-  pub within : b ≤ numberBytes
-  pub kept : length written ≡ length table
-  pub so-far : written ≡ paste table at (eightBytes number) b
-  pub others : drop b (eightBytes number) ≡ bytesOf (numberBytes - b) left
 
 -- there are so many bytes
 pub length-bytes : (count number : ℕ) → length (bytesOf count number) ≡ count
@@ -20,70 +15,83 @@ unfolding bytesOf
 length-bytes zero number = refl
 length-bytes (suc count) number = ap suc (length-bytes count (number / byteValues))
 
--- none at first, and all are left
-pub no-byte : (table : List ℕ) (at number : ℕ) → BytesWritten table at number table number 0
-no-byte table at number =
-    record { within = omega arith; kept = refl; so-far = paste-zero table at (eightBytes number); others = refl }
-
-module _ {table : List ℕ} {at number : ℕ} {written : List ℕ} {left b : ℕ} (w : BytesWritten table at number written left b) where
-  -- one byte more: the lowest of what is left
-  pub one-byte-more :
-      at + numberBytes ≤ length table → b < numberBytes →
-      BytesWritten table at number (set written (at + b) (left % byteValues)) (left / byteValues) (b + 1)
-  unfolding bytesOf
-  one-byte-more room more =
-      let inside : b < length (eightBytes number) = omega (arith, length-bytes numberBytes number) in
-      let next : b + 1 ≡ suc b = omega arith in
-      let one-left : numberBytes - b ≡ suc (numberBytes - (b + 1)) = omega arith in
-      let both :
-      getD (eightBytes number) b 0 ∷ drop (suc b) (eightBytes number)
-      ≡ left % byteValues ∷ bytesOf (numberBytes - (b + 1)) (left / byteValues) =
-      sym (drop-cons (eightBytes number) b 0 inside) ∙ w .others ∙ ap (λ (k : ℕ). bytesOf k left) one-left in
-      let byte : getD (eightBytes number) b 0 ≡ left % byteValues = cc in
-      let rest : drop (suc b) (eightBytes number) ≡ bytesOf (numberBytes - (b + 1)) (left / byteValues) = cc in
-      record {
-        within = omega arith;
-        kept = length-set written (at + b) (left % byteValues) ∙ w .kept;
-        so-far =
-            ap (λ (l : List ℕ). set l (at + b) (left % byteValues)) (w .so-far)
-            ∙ ap (set (paste table at (eightBytes number) b) (at + b)) (sym byte)
-            ∙ paste-suc table at (eightBytes number) b 0 (omega arith) inside
-            ∙ ap (paste table at (eightBytes number)) (sym next);
-        others = ap (λ (k : ℕ). drop k (eightBytes number)) next ∙ rest;
-      }
-
-  -- all of them at the end
-  pub all-bytes : numberBytes ≤ b → written ≡ take at table ++ eightBytes number ++ drop (at + numberBytes) table
-  all-bytes all =
-      let whole : b ≡ numberBytes = omega (arith, w .within) in
-      let taken : take numberBytes (eightBytes number) ≡ eightBytes number =
-      take-all numberBytes (eightBytes number) (omega (arith, length-bytes numberBytes number)) in
-      w .so-far
-      ∙ ap (paste table at (eightBytes number)) whole
-      ∙ ap (λ (l : List ℕ). take at table ++ l ++ drop (at + numberBytes) table) taken
-
--- ---- numbers, one behind another: rows of eight bytes
--- the bytes of the first so many
-abbrev pub firstBytes : List ℕ → ℕ → List ℕ
-firstBytes numbers n = flatMap eightBytes (take n numbers)
-
+-- ---- numbers, one behind another
 -- eight times as many bytes as numbers
 pub length-all : (numbers : List ℕ) → length (flatMap eightBytes numbers) ≡ numberBytes * length numbers
-unfolding flatMap
-length-all [] = refl
-length-all (number ∷ numbers) =
-    length-append (eightBytes number) (flatMap eightBytes numbers)
-    ∙ omega (arith, length-bytes numberBytes number, length-all numbers)
+length-all = flat-length eightBytes numberBytes (length-bytes numberBytes)
 
--- the bytes of one number more come last
-one-at-the-end : (numbers : List ℕ) (number : ℕ) → flatMap eightBytes (numbers ++ (number ∷ [])) ≡ flatMap eightBytes numbers ++ eightBytes number
+-- the bytes of some numbers and of others behind them
+pub bytes-of-both : (numbers others : List ℕ) → flatMap eightBytes (numbers ++ others) ≡ flatMap eightBytes numbers ++ flatMap eightBytes others
 unfolding flatMap
-one-at-the-end [] number = append-nil (eightBytes number)
-one-at-the-end (first ∷ numbers) number =
-    ap (λ (l : List ℕ). eightBytes first ++ l) (one-at-the-end numbers number)
-    ∙ sym (append-assoc (eightBytes first) (flatMap eightBytes numbers) (eightBytes number))
+bytes-of-both [] others = refl
+bytes-of-both (number ∷ numbers) others =
+    ap (λ (l : List ℕ). eightBytes number ++ l) (bytes-of-both numbers others)
+    ∙ sym (append-assoc (eightBytes number) (flatMap eightBytes numbers) (flatMap eightBytes others))
 
--- so one number more is one row more
-pub one-number-more :
-    (numbers : List ℕ) (n : ℕ) → n < length numbers → firstBytes numbers (suc n) ≡ firstBytes numbers n ++ eightBytes (getD numbers n 0)
-one-number-more numbers n more = ap (flatMap eightBytes) (take-suc numbers n 0 more) ∙ one-at-the-end (take n numbers) (getD numbers n 0)
+-- ---- the loop that writes a row: so far n of its numbers are written, from a byte of the table on
+pub record RowWritten (table : List ℕ) (at : ℕ) (row : List ℕ) (written : List ℕ) (n : ℕ) : Type 0 where
+  pub within : n ≤ length row
+  pub kept : length written ≡ length table
+  pub so-far : written ≡ take at table ++ flatMap eightBytes (take n row) ++ drop (at + numberBytes * n) table
+
+-- none is written
+pub row-start : (table : List ℕ) (at : ℕ) (row : List ℕ) → RowWritten table at row table 0
+unfolding flatMap
+row-start table at row =
+    let same : at + numberBytes * 0 ≡ at = omega arith in
+    record {
+      within = omega arith;
+      kept = refl;
+      so-far = sym (rw (same, append-nil) (take-append-drop at table));
+    }
+
+module _ {table : List ℕ} {at : ℕ} {row written : List ℕ} {n : ℕ} (w : RowWritten table at row written n) (room : at + numberBytes * length row ≤ length table) where
+  -- the bytes before the next number
+  abbrev before : List ℕ
+  before = take at table ++ flatMap eightBytes (take n row)
+
+  before-length : length before ≡ at + numberBytes * n
+  before-length =
+      length-append (take at table) (flatMap eightBytes (take n row))
+      ∙ omega (arith, length-take-le at table (omega (arith, room)), length-all (take n row), length-take-le n row (w .within))
+
+  -- there is room for it
+  pub row-room : n < length row → at + numberBytes * n + numberBytes ≤ length written
+  row-room more = omega (arith, room, w .kept, more)
+
+  -- it is written
+  pub row-on :
+      n < length row → (written' : List ℕ) → length written' ≡ length written →
+      written'
+      ≡ take (at + numberBytes * n) written ++ eightBytes (getD row n 0) ++ drop (at + numberBytes * n + numberBytes) written →
+      RowWritten table at row written' (n + 1)
+  row-on more written' sized is =
+      let there : ℕ = at + numberBytes * n in
+      let one-on : there + numberBytes ≡ at + numberBytes * (n + 1) = omega arith in
+      let left : take there written ≡ before = ap (take there) (w .so-far) ∙ take-at before (drop there table) there before-length in
+      let right : drop (there + numberBytes) written ≡ drop (at + numberBytes * (n + 1)) table =
+      sym (drop-drop numberBytes there written)
+      ∙ ap (λ (l : List ℕ). drop numberBytes (drop there l)) (w .so-far)
+      ∙ ap (drop numberBytes) (drop-at before (drop there table) there before-length)
+      ∙ drop-drop numberBytes there table
+      ∙ ap (λ (k : ℕ). drop k table) one-on in
+      let bytes : flatMap eightBytes (take n row) ++ eightBytes (getD row n 0) ≡ flatMap eightBytes (take (n + 1) row) =
+      sym (ap (λ (k : ℕ). flatMap eightBytes (take k row)) (add-one n) ∙ flat-on eightBytes row 0 n more) in
+      record {
+        within = omega arith;
+        kept = sized ∙ w .kept;
+        so-far =
+            is
+            ∙ ap (λ (l : List ℕ). l ++ eightBytes (getD row n 0) ++ drop (there + numberBytes) written) left
+            ∙ ap (λ (l : List ℕ). before ++ eightBytes (getD row n 0) ++ l) right
+            ∙ ap (λ (l : List ℕ). l ++ drop (at + numberBytes * (n + 1)) table) (append-assoc (take at table) (flatMap eightBytes (take n row)) (eightBytes (getD row n 0)))
+            ∙ ap (λ (l : List ℕ). take at table ++ l ++ drop (at + numberBytes * (n + 1)) table) bytes;
+      }
+
+  -- all are
+  pub row-end : length row ≤ n → written ≡ take at table ++ flatMap eightBytes row ++ drop (at + numberBytes * length row) table
+  row-end all =
+      let here : n ≡ length row = omega (arith, w .within) in
+      w .so-far
+      ∙ ap (λ (k : ℕ). take at table ++ flatMap eightBytes (take k row) ++ drop (at + numberBytes * k) table) here
+      ∙ ap (λ (l : List ℕ). take at table ++ flatMap eightBytes l ++ drop (at + numberBytes * length row) table) (take-length row)

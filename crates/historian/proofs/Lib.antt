@@ -1,6 +1,6 @@
 -- Numbers as bytes in a table.
 mod Bytes
--- The tables of numbers that are lent to the call below, and the historian's tables.
+-- What the entry leaves in the tables.
 mod Tables
 -- What the answer to a sheet leaves.
 mod Sheets

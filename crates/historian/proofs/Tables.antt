@@ -1,76 +1,83 @@
--- The tables of numbers that are lent to the call below: what they hold when they come back, and so what the historian's tables hold.
-use Prim.Native.Nat.{ℕ, _*_, _≤_, min}
-use mathlib.Core.Path.{_≡_, sym, ap, _∙_}
-use mathlib.Core.List.{List, _++_, append-assoc, flatMap}
+-- What the entry leaves in the historian's tables: nothing where the file is refused, else the bytes of its rows.
+use Prim.Native.Nat.{ℕ, _*_, _≤_}
+use mathlib.Core.Path.{_≡_, refl, sym, ap, _∙_}
+use mathlib.Core.List.{List, _++_, flatMap}
 use native.Mathlib.Omega.{arith}
-use lib.ListN.{length, take, drop, replicate, length-append, length-drop, length-replicate}
-use lib.Seq.{length-take-le, length-front, take-at}
-use Rattle.records.specs.Plants.{mostPlants}
-use Rattle.records.specs.Segments.{mostSegments}
-use Rattle.accounts.specs.Order.{plantNumbers, segmentNumbers}
-use Rattle.accounts.specs.Quantified.{quantified}
-use Rattle.accounts.proofs.Room.{room-enough}
-use Rattle.period.specs.Written.{overwritten}
-use Rattle.historian.specs.Tables.{numberBytes, eightBytes, wholeNumbers, entryRuling, bytesOverwritten}
+use lib.ListN.{length, drop}
+use Rattle.fields.specs.declared.answer.Answer.{Answer}
+use Rattle.fields.specs.declared.answer.Answer.the-variants.{Accepted, Refused}
+use Rattle.fields.specs.declared.answer.Refusal.{Refusal}
+use Rattle.fields.specs.Reasons.{numberOf}
+use Rattle.fields.specs.Answers.{refusing, refusalNumber, refusalPlace, said}
+use Rattle.fields.proofs.Answers.{refuses-not-accepts}
+use Rattle.accounts.specs.Order.{Ruling, refusal, accepted, plantNumbers, segmentNumbers}
+use Rattle.settling.specs.declared.settling.Settled.{Settled}
+use Rattle.settling.specs.Settled.{SettlePromise}
+use Rattle.period.specs.Written.{firstRows, plantRowAt, segmentRowAt, withTables, rulingVerdict, plantEntries, segmentEntries}
+use Rattle.period.proofs.Answering.{answer-is, rows-are, room-is, plants-long, segments-long}
+use Rattle.historian.specs.Tables.{numberBytes, eightBytes, wholeNumbers, entryRuling, bytesOverwritten, EntryPromise}
 
--- ---- a table is lent: the part with room for so many numbers, of one that has the most
-abbrev zeros : ℕ → List ℕ
-zeros most = replicate most 0
+module _
+    (file plants segments : List ℕ) (r : Settled) (settles : SettlePromise file r) (answer : Answer)
+    (told : said answer ≡ withTables (r .«plant_count») (r .«segment_count») (wholeNumbers plants) (wholeNumbers segments) (said (r .answer))) where
+  -- the ruling, and what is answered
+  abbrev ruling : Ruling
+  ruling = entryRuling file plants segments
 
-abbrev pub lentPart : (most room : ℕ) → List ℕ
-lentPart most room = take room (zeros most)
+  verdict-is : said answer ≡ rulingVerdict ruling
+  verdict-is = answer-is file r settles (wholeNumbers plants) (wholeNumbers segments) answer told
 
--- it has just that room
-pub lent-length : (most room : ℕ) → room ≤ most → length (lentPart most room) ≡ room
-lent-length most room fits = length-take-le room (zeros most) (omega (arith, length-replicate {A = ℕ} most 0))
+  -- a refusal leaves the tables as they were
+  pub entry-refuses :
+      (why : Refusal) → answer ≡ Refused why →
+      EntryPromise file plants segments (record { result = numberOf (why .reason); place = why .place; plants = plants; segments = segments })
+  unfolding flatMap
+  entry-refuses why is =
+      let verdict : refusing why ≡ rulingVerdict ruling = sym (ap said is) ∙ verdict-is in
+      let same = by-ruling ruling verdict in
+      record {
+        result = ap refusalNumber verdict;
+        place = ap refusalPlace verdict;
+        plants-after = same .0;
+        segments-after = same .1;
+      }
+    where
+      by-ruling :
+          (a : Ruling) → refusing why ≡ rulingVerdict a →
+          (plants ≡ bytesOverwritten (plantEntries a) plants) × (segments ≡ bytesOverwritten (segmentEntries a) segments)
+      by-ruling (refusal number place) e = (refl, refl)
+      by-ruling (accepted plant-numbers segment-numbers) e = absurd (refuses-not-accepts e)
 
--- the most numbers of each table
-abbrev pub mostPlantNumbers : ℕ
-mostPlantNumbers = plantNumbers * mostPlants
+  module _ (is : answer ≡ Accepted) where
+    -- acceptance has room for the rows
+    pub entry-room : (numberBytes * plantNumbers * r .«plant_count» ≤ length plants) × (numberBytes * segmentNumbers * r .«segment_count» ≤ length segments)
+    entry-room =
+        let enough = room-is file r settles (wholeNumbers plants) (wholeNumbers segments) answer told is in
+        (omega (arith, enough .0), omega (arith, enough .1))
 
-abbrev pub mostSegmentNumbers : ℕ
-mostSegmentNumbers = segmentNumbers * mostSegments
-
--- the ruling is that with tables as long as the historian's
-pub same-ruling :
-    (file plants segments : List ℕ) (plantRoom segmentRoom : ℕ) →
-    plantRoom ≡ min (wholeNumbers plants) mostPlantNumbers → segmentRoom ≡ min (wholeNumbers segments) mostSegmentNumbers →
-    quantified file (length (lentPart mostPlantNumbers plantRoom)) (length (lentPart mostSegmentNumbers segmentRoom)) ≡ entryRuling file plants segments
-same-ruling file plants segments plantRoom segmentRoom p s =
-    ap (λ (n : ℕ). quantified file n (length (lentPart mostSegmentNumbers segmentRoom))) (lent-length mostPlantNumbers plantRoom (omega arith) ∙ p)
-    ∙ ap (quantified file (min (wholeNumbers plants) mostPlantNumbers)) (lent-length mostSegmentNumbers segmentRoom (omega arith) ∙ s)
-    ∙ room-enough file (wholeNumbers plants) (wholeNumbers segments)
-
--- ---- it comes back, with so many numbers written over what stood in it
-pub record Back (numbers : List ℕ) (most room : ℕ) (last : List ℕ) (count : ℕ) : Type 0 where
-  pub fits : room ≤ most
-  pub kept : length last ≡ length (lentPart most room)
-  pub after : last ≡ overwritten numbers (lentPart most room)
-  pub counted : count ≡ length numbers
-
--- the whole table then, with the part that was not lent
-abbrev whole : (most room : ℕ) → List ℕ → List ℕ
-whole most room last = last ++ drop room (zeros most)
-
-module _ {numbers : List ℕ} {most room : ℕ} {last : List ℕ} {count : ℕ} (back : Back numbers most room last count) where
-  -- there was room for them
-  pub within-room : count ≤ room
-  within-room =
-      let all = ap length (back .after) ∙ length-append numbers (drop (length numbers) (lentPart most room)) in
-      omega (arith, back, all, length-drop (length numbers) (lentPart most room), lent-length most room (back .fits))
-
-  -- it is as long as before
-  pub whole-length : length (whole most room last) ≡ most
-  whole-length = length-front (zeros most) last room (back .kept) ∙ length-replicate most 0
-
-  -- the historian's table, when they are written into it
-  pub bytes-after :
-      (table : List ℕ) → flatMap eightBytes (take count (whole most room last)) ++ drop (numberBytes * count) table ≡ bytesOverwritten numbers table
-  bytes-after table =
-      let rest : List ℕ = drop (length numbers) (lentPart most room) in
-      let taken : take count (whole most room last) ≡ numbers =
-      ap (λ (l : List ℕ). take count (l ++ drop room (zeros most))) (back .after)
-      ∙ ap (take count) (append-assoc numbers rest (drop room (zeros most)))
-      ∙ take-at numbers (rest ++ drop room (zeros most)) count (sym (back .counted)) in
-      ap (λ (l : List ℕ). flatMap eightBytes l ++ drop (numberBytes * count) table) taken
-      ∙ ap (λ (k : ℕ). flatMap eightBytes numbers ++ drop (numberBytes * k) table) (back .counted)
+    -- and writes them
+    pub entry-accepts :
+        (plants' segments' : List ℕ) →
+        plants' ≡ flatMap eightBytes (firstRows (plantRowAt (r .plants)) (r .«plant_count»)) ++ drop (numberBytes * plantNumbers * r .«plant_count») plants →
+        segments'
+        ≡ flatMap eightBytes (firstRows (segmentRowAt (r .segments)) (r .«segment_count»)) ++ drop (numberBytes * segmentNumbers * r .«segment_count») segments →
+        EntryPromise file plants segments (record { result = 0; place = 0; plants = plants'; segments = segments' })
+    entry-accepts plants' segments' plants-written segments-written =
+        let rows = rows-are file r settles (wholeNumbers plants) (wholeNumbers segments) answer told is in
+        let long = plants-long (r .plants) (r .«plant_count») in
+        let long' = segments-long (r .segments) (r .«segment_count») in
+        let bytes : numberBytes * plantNumbers * r .«plant_count» ≡ numberBytes * length (firstRows (plantRowAt (r .plants)) (r .«plant_count»)) = omega (arith, long) in
+        let bytes' : numberBytes * segmentNumbers * r .«segment_count» ≡ numberBytes * length (firstRows (segmentRowAt (r .segments)) (r .«segment_count»)) = omega (arith, long') in
+        let verdict = sym (ap said is) ∙ verdict-is in
+        record {
+          result = ap refusalNumber verdict;
+          place = ap refusalPlace verdict;
+          plants-after =
+              plants-written
+              ∙ ap (λ (n : ℕ). flatMap eightBytes (firstRows (plantRowAt (r .plants)) (r .«plant_count»)) ++ drop n plants) bytes
+              ∙ sym (ap (λ (a : Ruling). bytesOverwritten (plantEntries a) plants) rows);
+          segments-after =
+              segments-written
+              ∙ ap (λ (n : ℕ). flatMap eightBytes (firstRows (segmentRowAt (r .segments)) (r .«segment_count»)) ++ drop n segments) bytes'
+              ∙ sym (ap (λ (a : Ruling). bytesOverwritten (segmentEntries a) segments) rows);
+        }

@@ -1,17 +1,11 @@
 // The entry that the historian calls from C, on bytes.
 ghost use Rattle.historian.specs.Tables.{EntryPromise};
 use crate::table::room;
-use crate::table::write_numbers;
-use period::PLANT_NUMBERS;
-use period::SEGMENT_NUMBERS;
-use period::quantify;
-use records::Plant;
-use records::Segment;
-
-// The most numbers that a period's rows have in each table.
-const MOST_PLANT_NUMBERS: usize = PLANT_NUMBERS * Plant::MOST;
-
-const MOST_SEGMENT_NUMBERS: usize = SEGMENT_NUMBERS * Segment::MOST;
+use crate::table::write_plants;
+use crate::table::write_segments;
+use fields::Answer;
+use period::answer_with_tables;
+use settling::settle;
 
 // Answers a file of any length and content, with tables of any lengths: the number of refusal and the
 // place, 0 and 0 where the file is accepted. A refusal leaves both tables as they were; acceptance
@@ -26,18 +20,26 @@ pub extern "C" fn steeplecuff_quantify(
 ) -> u32
     ensures { λ r. ⌜ EntryPromise (now (file .entry)) (now (plants .entry)) (now (segments .entry)) (record { result = r; place = now (place .exit); plants = now (plants .exit); segments = now (segments .exit) }) ⌝ }
 {
-    let mut plant_table = [0u64; MOST_PLANT_NUMBERS];
-    let mut segment_table = [0u64; MOST_SEGMENT_NUMBERS];
-    let plant_room = room(plants.len(), MOST_PLANT_NUMBERS);
-    let segment_room = room(segments.len(), MOST_SEGMENT_NUMBERS);
-    let quantified = quantify(
-        file,
-        &mut plant_table[..plant_room],
-        &mut segment_table[..segment_room],
+    let settled = settle(file);
+    let answer = settled.answer;
+    let plant_count = settled.plant_count;
+    let segment_count = settled.segment_count;
+    let answer = answer_with_tables(
+        answer,
+        plant_count,
+        segment_count,
+        room(plants.len()),
+        room(segments.len()),
     );
-    write_numbers(plants, &plant_table, quantified.plant_numbers);
-    write_numbers(segments, &segment_table, quantified.segment_numbers);
-    let answer = quantified.answer;
-    *place = answer.place();
-    answer.refusal()
+    if let Answer::Refused(refusal) = answer {
+        let reason = refusal.reason;
+        *place = refusal.place;
+        return reason.number();
+    }
+    let plant_accounts = settled.plants;
+    write_plants(plants, plant_accounts, plant_count as usize);
+    let segment_accounts = settled.segments;
+    write_segments(segments, segment_accounts, segment_count as usize);
+    *place = 0;
+    0
 }

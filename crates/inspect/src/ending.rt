@@ -19,7 +19,7 @@ use output::put_number;
 use output::put_refusal;
 use output::put_spaced;
 use output::put_words;
-use records::read;
+use records::verdict;
 
 // Where a walk stops.
 enum Stop {
@@ -60,7 +60,7 @@ fn put_ending(
     ensures { λ r. ⌜ Put (pageEnd (now (file .entry)) cut (spot .place) (spot .byte) field) at (now (buffer .entry)) r (now (buffer .exit)) ⌝ }
 {
     let found = step_at(file, spot.byte).found;
-    let answer = read(file).answer;
+    let answer = verdict(file);
     let stop = stop_of(found, cut, spot.byte == file.len());
     let at = put_stopped_at(buffer, at, stop, spot.place, spot.byte, field);
     let at = put_verdict(buffer, at, answer);

@@ -1,199 +1,201 @@
--- The call, step by step: what reading, the lines and the settling come to is the ruling of the definitions.
-use Prim.Native.Nat.{ℕ, _-_, _*_, _≤_}
-use mathlib.Core.Path.{_≡_, refl, sym, ap, _∙_}
-use mathlib.Core.List.{List, _++_}
-use lib.ListN.{length, take, replicate}
-use lib.Seq.{take-append-seam}
+-- The call, step by step: what the settlement and the room in the tables come to is the ruling of the definitions.
+use Prim.Native.Nat.{ℕ, _+_, _-_, _*_, _≤_}
+use mathlib.Core.Path.{_≡_, refl, sym, ap, ap₂, subst, _∙_}
+use mathlib.Core.Bool.{Bool, true, false, cond}
+use mathlib.Core.List.{List, [], _∷_, _++_, append-assoc, flatMap}
+use lib.ListN.{length, length-map, drop}
 use Rattle.fields.specs.declared.answer.Answer.{Answer}
 use Rattle.fields.specs.declared.answer.Answer.the-variants.{Accepted, Refused}
 use Rattle.fields.specs.declared.answer.Refusal.{Refusal}
-use Rattle.fields.specs.Answers.{accepts, refusing, said}
+use Rattle.fields.specs.Answers.{Verdict, accepts, refuses, refusing, said}
+use Rattle.fields.specs.Reasons.{numberOf}
 use Rattle.fields.specs.Readers.{Read, read, refused}
-use Rattle.fields.specs.Files.{readVerdict}
-use Rattle.fields.specs.Lists.{Each, filled}
-use Rattle.fields.specs.Tests.{Test}
+use Rattle.fields.specs.Tests.{Test, testedBy}
 use Rattle.fields.proofs.Answers.{refuses-not-accepts}
-use Rattle.fields.proofs.Testing.{none-answers}
-use Rattle.records.specs.declared.counts.Counts.{Counts}
-use Rattle.records.specs.declared.reading.Reading.{Reading}
-use Rattle.records.specs.Plants.{mostPlants, noPlant}
-use Rattle.records.specs.Segments.{mostSegments, noSegment}
-use Rattle.records.specs.Lines.{mostLines, noLine}
+use Rattle.fields.proofs.Testing.{none-answers, listed-length}
+use Rattle.records.specs.Headers.{announced}
 use Rattle.records.specs.Periods.{Period, periodFile}
-use Rattle.records.specs.Within.{LineWithin, mostCounts, countsOf, Within}
-use Rattle.records.specs.Held.{recordsOf, Held}
-use Rattle.records.proofs.Within.{each-on, line-within-most, read-within}
-use Rattle.accounts.specs.Rows.{plantRows, segmentRows}
-use Rattle.accounts.specs.Order.{Ruling, refusal, accepted, tested, segmentTests, plantNumbers, segmentNumbers, tableTests}
-use Rattle.accounts.specs.Quantified.{accountsOf, stores, rows, judged, afterReading, quantified}
+use Rattle.accounts.specs.Order.{Ruling, refusal, accepted, tested, lineTests, segmentTests, plantNumbers, segmentNumbers, tableTests}
+use Rattle.accounts.specs.Quantified.{accountsOf, rows, judged, afterReading, quantified}
 use Rattle.accounts.proofs.Testing.{none-fails}
-use Rattle.accounts.proofs.Accepting.{accounts-length}
-use Rattle.accounts.proofs.RowsAt.{stores-length, plant-rows-long, segment-rows-long}
-use Rattle.period.specs.declared.emissions.Emissions.{Emissions}
-use Rattle.period.specs.Written.{Lent, rulingOn, rulingVerdict, plantEntries, segmentEntries, HandsBack, QuantifyPromise}
-use Rattle.period.specs.Inside.{AddedUp, Given, Finished, settled, Settled, nothingWritten}
+use Rattle.accounts.proofs.Accepting.{accounts-length, table-room}
+use Rattle.settling.specs.declared.account.PlantAccounts.{PlantAccounts}
+use Rattle.settling.specs.declared.account.SegmentAccounts.{SegmentAccounts}
+use Rattle.settling.specs.declared.settling.Settled.{Settled}
+use Rattle.settling.specs.Settled.{segmentAccount, plantAccountAt, plantAccounts, segmentAccounts, Settlement, nothingSettled, settledOf, settledBy, settledPeriod, settledAfter, settlement, SettlePromise}
+use Rattle.period.specs.Written.{plantRowAt, segmentRowAt, firstRows, withTables, Lent, lent, rulingOn, rulingVerdict, lentAfter, HandsBack, QuantifyPromise}
+use Rattle.period.specs.Inside.{nothingWritten}
 use Rattle.period.proofs.Refusing.{accepted-told}
+use Rattle.period.proofs.RowsWritten.{rows-length}
+use Rattle.period.proofs.RowsOfAccounts.{plantRowOf, segmentRowOf, plant-rows-are, segment-rows-are, plant-rows-by, segment-rows-by}
 
--- ---- a refusal writes nothing
--- it says that nothing was written
-says-nothing-written : (why : Refusal) (ruling : Ruling) → refusing why ≡ rulingVerdict ruling → HandsBack (nothingWritten why) ruling
-says-nothing-written why (refusal number place) verdict = record { verdict = verdict; plants = refl; segments = refl }
-says-nothing-written why (accepted plants segments) verdict = absurd (refuses-not-accepts verdict)
+-- ---- a settlement, with tables of so many numbers
+module _ (plantTable segmentTable : ℕ) where
+  -- the tests of the tables, for the plants and the segments that it has
+  abbrev tableTestsOf : Settlement → List Test
+  tableTestsOf settled = tableTests (announced (length (settled .plants)) (length (settled .segments)) 0) plantTable segmentTable
 
--- which keeps the promise of the call
-refused-promised :
-    (file : List ℕ) (why : Refusal) (tables tables' : Lent) → Finished (rulingOn file tables) (refusing why) tables tables' →
-    QuantifyPromise file tables (nothingWritten why) tables'
-refused-promised file why tables tables' finished =
-    record { hands-back = says-nothing-written why (rulingOn file tables) (finished .0); leaves = finished .1 }
+  -- its rows
+  abbrev rowsOf : Settlement → Ruling
+  rowsOf settled = accepted (flatMap plantRowOf (settled .plants)) (flatMap segmentRowOf (settled .segments))
 
--- ---- acceptance writes the rows
--- tests that accept leave the ruling as it is
-accepted-tested : (tests : List Test) (ruling : Ruling) → rulingVerdict (tested tests ruling) ≡ accepts → tested tests ruling ≡ ruling
-accepted-tested tests ruling =
-    accepted-told (tested tests ruling) (tested tests ruling ≡ ruling)
-    (λ plants segments is. none-answers refusal ruling (none-fails tests ruling plants segments is))
+  -- the ruling: a refusal stands, else the tables decide
+  abbrev ruledBy : Verdict → Settlement → Ruling
+  ruledBy (refuses number place) settled = refusal number place
+  ruledBy accepts settled = tested (tableTestsOf settled) (rowsOf settled)
 
--- it says how many numbers the rows have
-rows-written :
-    (period : Period) (tables : Lent) → accepts ≡ rulingVerdict (settled period tables) →
-    HandsBack
-    (record { answer = Accepted; «plant_numbers» = plantNumbers * length (period .plants); «segment_numbers» = segmentNumbers * length (period .segments) })
-    (settled period tables)
-unfolding rows
-rows-written period tables verdict =
-    let accounts = accountsOf period in
-    let plants = plantRows (period .lines) accounts 0 (period .plants) (stores period) in
-    let is : settled period tables ≡ accepted plants (segmentRows accounts) =
-    accepted-tested (segmentTests accounts ++ tableTests (countsOf period) (length (tables .plants)) (length (tables .segments)))
-    (accepted plants (segmentRows accounts)) (sym verdict) in
-    record {
-      verdict = verdict;
-      plants = sym (ap (λ (r : Ruling). length (plantEntries r)) is ∙ plant-rows-long (period .lines) accounts 0 (period .plants) (stores period) (stores-length period));
-      segments = sym (ap (λ (r : Ruling). length (segmentEntries r)) is ∙ segment-rows-long accounts ∙ ap (λ (n : ℕ). segmentNumbers * n) (accounts-length period));
-    }
+  abbrev pub ruled : Settlement → Ruling
+  ruled settled = ruledBy (settled .verdict) settled
 
--- ---- the records at the front of their arrays
-front-is : {A : Type 0} (none : A) (room count : ℕ) (held array : List A) → count ≡ length held → array ≡ filled none room held → take count array ≡ held
-unfolding filled
-front-is none room count held array counted is = rw (counted, is) (take-append-seam held (replicate (room - length held) none))
-
--- ---- a file whose reading is held
-module _ (file : List ℕ) (r : Reading) (held : Held r (periodFile file)) where
-  -- refused by reading
-  pub reading-refused : (why : Refusal) → r .answer ≡ Refused why → (tables : Lent) → QuantifyPromise file tables (nothingWritten why) tables
-  unfolding quantified
-  reading-refused why is tables =
-      refused-promised file why tables tables (by-outcome (periodFile file) (sym (ap said is) ∙ held .answer))
+  -- tests before those of the tables
+  tested-before :
+      (tests : List Test) (settled : Settlement) (rest : List Test) (ruling : Ruling) → tested rest ruling ≡ ruled settled →
+      tested (tests ++ rest) ruling ≡ ruled (settledBy tests settled)
+  unfolding testedBy
+  tested-before [] settled rest ruling e = e
+  tested-before (test ∷ tests) settled rest ruling e = by-test (test .fails) (tested-before tests settled rest ruling e)
     where
-      by-outcome :
-          (outcome : Read Period) → refusing why ≡ readVerdict outcome →
-          Finished (afterReading outcome (length (tables .plants)) (length (tables .segments))) (refusing why) tables tables
-      by-outcome (read period place rest) e = absurd (refuses-not-accepts e)
-      by-outcome (refused number place) e = (e, refl)
+      by-test :
+          (t : Bool) → tested (tests ++ rest) ruling ≡ ruled (settledBy tests settled) →
+          cond t (refusal (numberOf (test .reason)) (test .place)) (tested (tests ++ rest) ruling)
+          ≡ ruled (cond t (nothingSettled (numberOf (test .reason)) (test .place)) (settledBy tests settled))
+      by-test true e = refl
+      by-test false e = e
 
-  -- read to its end
-  module _ (is-read : r .answer ≡ Accepted) where
-    -- its period
-    abbrev period : Period
-    period = recordsOf (periodFile file)
+  -- the ruling on a period that was read
+  judged-is : (period : Period) → judged period (accountsOf period) plantTable segmentTable ≡ ruled (settledPeriod period)
+  unfolding judged settledPeriod rows
+  judged-is period =
+      let counted : length (plantAccounts period) ≡ length (period .plants) = listed-length (plantAccountAt period) 0 (length (period .plants)) in
+      let counted' : length (segmentAccounts period) ≡ length (period .segments) = length-map (accountsOf period) segmentAccount ∙ accounts-length period in
+      let tests = lineTests (period .lines) 0 (period .lines) in
+      ap (λ (all : List Test). tested all (rows period (accountsOf period))) (sym (append-assoc tests (segmentTests (accountsOf period)) _))
+      ∙ tested-before (tests ++ segmentTests (accountsOf period)) (settledOf period) _ _
+      (rw (counted, counted', plant-rows-are period, segment-rows-are (accountsOf period)) refl)
 
-    accepting : accepts ≡ readVerdict (periodFile file)
-    accepting = sym (ap said is-read) ∙ held .answer
+  -- and on a file
+  pub ruling-is : (file : List ℕ) → quantified file plantTable segmentTable ≡ ruled (settlement file)
+  unfolding quantified settlement
+  ruling-is file = by-outcome (periodFile file)
+    where
+      by-outcome : (outcome : Read Period) → afterReading outcome plantTable segmentTable ≡ ruled (settledAfter outcome)
+      by-outcome (refused number place) = refl
+      by-outcome (read period place rest) = judged-is period
 
-    -- the tests after reading are left
-    read-whole : (plantTable segmentTable : ℕ) → quantified file plantTable segmentTable ≡ judged period (accountsOf period) plantTable segmentTable
-    unfolding quantified
-    read-whole plantTable segmentTable = by-outcome (periodFile file) accepting
-      where
-        by-outcome :
-            (outcome : Read Period) → accepts ≡ readVerdict outcome →
-            afterReading outcome plantTable segmentTable ≡ judged (recordsOf outcome) (accountsOf (recordsOf outcome)) plantTable segmentTable
-        by-outcome (read period place rest) e = refl
-        by-outcome (refused number place) e = absurd (refuses-not-accepts (sym e))
+  -- what it says to the caller
+  told-of-tests : (tests : List Test) (plants segments : List ℕ) → rulingVerdict (tested tests (accepted plants segments)) ≡ testedBy refuses tests accepts
+  unfolding testedBy
+  told-of-tests [] plants segments = refl
+  told-of-tests (test ∷ tests) plants segments = by-test (test .fails) (told-of-tests tests plants segments)
+    where
+      by-test :
+          (t : Bool) → rulingVerdict (tested tests (accepted plants segments)) ≡ testedBy refuses tests accepts →
+          rulingVerdict (cond t (refusal (numberOf (test .reason)) (test .place)) (tested tests (accepted plants segments)))
+          ≡ cond t (refuses (numberOf (test .reason)) (test .place)) (testedBy refuses tests accepts)
+      by-test true e = refl
+      by-test false e = e
 
-    -- the period is within its limits
-    within : Within period
-    within = by-outcome (periodFile file) refl accepting
-      where
-        by-outcome : (outcome : Read Period) → periodFile file ≡ outcome → accepts ≡ readVerdict outcome → Within (recordsOf outcome)
-        by-outcome (read period place rest) is e = read-within file period place rest is
-        by-outcome (refused number place) is e = absurd (refuses-not-accepts (sym e))
+  pub ruled-verdict :
+      (settled : Settlement) →
+      rulingVerdict (ruled settled) ≡ withTables (length (settled .plants)) (length (settled .segments)) plantTable segmentTable (settled .verdict)
+  ruled-verdict settled = by-verdict (settled .verdict)
+    where
+      by-verdict :
+          (verdict : Verdict) →
+          rulingVerdict (ruledBy verdict settled) ≡ withTables (length (settled .plants)) (length (settled .segments)) plantTable segmentTable verdict
+      by-verdict (refuses number place) = refl
+      by-verdict accepts = told-of-tests (tableTestsOf settled) _ _
 
-    -- its records stand at the front of the arrays
-    plants-front : take (r .counts .plants) (r .plants) ≡ period .plants
-    plants-front =
-        front-is noPlant mostPlants (r .counts .plants) (period .plants) (r .plants) (ap (λ (c : Counts). c .plants) (held .counts)) (held .plants)
+  -- where that is acceptance, the ruling has the rows
+  pub accepted-rows : (settled : Settlement) → rulingVerdict (ruled settled) ≡ accepts → ruled settled ≡ rowsOf settled
+  accepted-rows settled = by-verdict (settled .verdict)
+    where
+      by-verdict : (verdict : Verdict) → rulingVerdict (ruledBy verdict settled) ≡ accepts → ruledBy verdict settled ≡ rowsOf settled
+      by-verdict (refuses number place) e = absurd (refuses-not-accepts e)
+      by-verdict accepts e =
+          accepted-told (tested (tableTestsOf settled) (rowsOf settled)) (tested (tableTestsOf settled) (rowsOf settled) ≡ rowsOf settled)
+          (λ plants segments is. none-answers refusal (rowsOf settled) (none-fails (tableTestsOf settled) (rowsOf settled) plants segments is)) e
 
-    segments-front : take (r .counts .segments) (r .segments) ≡ period .segments
-    segments-front =
-        front-is noSegment mostSegments (r .counts .segments) (period .segments) (r .segments) (ap (λ (c : Counts). c .segments) (held .counts)) (held .segments)
+  -- and there is room for them
+  pub accepted-room :
+      (settled : Settlement) → rulingVerdict (ruled settled) ≡ accepts →
+      (plantNumbers * length (settled .plants) ≤ plantTable) × (segmentNumbers * length (settled .segments) ≤ segmentTable)
+  accepted-room settled = by-verdict (settled .verdict)
+    where
+      by-verdict :
+          (verdict : Verdict) → rulingVerdict (ruledBy verdict settled) ≡ accepts →
+          (plantNumbers * length (settled .plants) ≤ plantTable) × (segmentNumbers * length (settled .segments) ≤ segmentTable)
+      by-verdict (refuses number place) e = absurd (refuses-not-accepts e)
+      by-verdict accepts e =
+          accepted-told (tested (tableTestsOf settled) (rowsOf settled)) _
+          (λ plants segments is.
+          table-room (announced (length (settled .plants)) (length (settled .segments)) 0) plantTable segmentTable
+          (none-fails (tableTestsOf settled) (rowsOf settled) plants segments is)) e
 
-    lines-front : take (r .counts .lines) (r .lines) ≡ period .lines
-    lines-front =
-        front-is noLine mostLines (r .counts .lines) (period .lines) (r .lines) (ap (λ (c : Counts). c .lines) (held .counts)) (held .lines)
+-- ---- a file that was settled, and what was answered with tables of so many numbers
+module _
+    (file : List ℕ) (r : Settled) (settles : SettlePromise file r) (plantTable segmentTable : ℕ) (answer : Answer)
+    (told : said answer ≡ withTables (r .«plant_count») (r .«segment_count») plantTable segmentTable (said (r .answer))) where
+  -- that is the ruling
+  pub answer-is : said answer ≡ rulingVerdict (quantified file plantTable segmentTable)
+  answer-is =
+      told
+      ∙ rw (settles .plant-count, settles .segment-count, settles .verdict) refl
+      ∙ sym (ap rulingVerdict (ruling-is plantTable segmentTable file) ∙ ruled-verdict plantTable segmentTable (settlement file))
 
-    -- ---- the lines
-    pub lines-fit : (r .counts .lines ≤ mostLines) × Each (LineWithin mostCounts) 1 (take (r .counts .lines) (r .lines))
-    lines-fit = (
-      rw (held .counts) (within .counts .most-lines),
-      rw lines-front (each-on (line-within-most (within .counts)) 1 (period .lines) (within .lines)),
-    )
+  -- accepted
+  module _ (is : answer ≡ Accepted) where
+    accepting : rulingVerdict (ruled plantTable segmentTable (settlement file)) ≡ accepts
+    accepting = sym (sym (ap said is) ∙ answer-is ∙ ap rulingVerdict (ruling-is plantTable segmentTable file))
 
-    module _ (emitted : Emissions) (added : AddedUp emitted (take (r .counts .lines) (r .lines))) where
-      of-lines : AddedUp emitted (period .lines)
-      of-lines = rw lines-front at added
+    -- the ruling has their rows
+    pub rows-are : quantified file plantTable segmentTable ≡ accepted (firstRows (plantRowAt (r .plants)) (r .«plant_count»)) (firstRows (segmentRowAt (r .segments)) (r .«segment_count»))
+    rows-are =
+        ruling-is plantTable segmentTable file
+        ∙ accepted-rows plantTable segmentTable (settlement file) accepting
+        ∙ sym (rw (settles .plant-count, settles .segment-count) (ap₂ accepted (plant-rows-by (r .plants) (settlement file .plants) (settles .plants)) (segment-rows-by (r .segments) (settlement file .segments) (settles .segments))))
 
-      -- the tests that are left behind the lines'
-      abbrev left : Lent → List Test
-      left tables = segmentTests (accountsOf period) ++ tableTests (countsOf period) (length (tables .plants)) (length (tables .segments))
+    -- for which there is room
+    pub room-is : (plantNumbers * r .«plant_count» ≤ plantTable) × (segmentNumbers * r .«segment_count» ≤ segmentTable)
+    room-is = rw (settles .plant-count, settles .segment-count) (accepted-room plantTable segmentTable (settlement file) accepting)
 
-      -- a line's owner passes the limit
-      pub lines-refused : (why : Refusal) → emitted .answer ≡ Refused why → (tables : Lent) → QuantifyPromise file tables (nothingWritten why) tables
-      unfolding judged
-      lines-refused why is tables =
-          refused-promised file why tables tables
-          (rw (
-            read-whole (length (tables .plants)) (length (tables .segments)),
-            (rw is at (of-lines .tests)) (left tables) (rows period (accountsOf period)),
-          ) (refl, refl))
+-- ---- how many numbers so many rows have
+pub plants-long : (columns : PlantAccounts) (count : ℕ) → length (firstRows (plantRowAt columns) count) ≡ plantNumbers * count
+plants-long columns = rows-length (plantRowAt columns) plantNumbers (λ i. refl)
 
-      -- ---- the segments and the tables
-      module _ (passing : emitted .answer ≡ Accepted) where
-        -- the tests of the segments and the tables are left
-        lines-pass : (tables : Lent) → rulingOn file tables ≡ settled period tables
-        unfolding judged
-        lines-pass tables =
-            read-whole (length (tables .plants)) (length (tables .segments))
-            ∙ (rw passing at (of-lines .tests)) (left tables) (rows period (accountsOf period))
+pub segments-long : (columns : SegmentAccounts) (count : ℕ) → length (firstRows (segmentRowAt columns) count) ≡ segmentNumbers * count
+segments-long columns = rows-length (segmentRowAt columns) segmentNumbers (λ i. refl)
 
-        -- what settling asks of the records and the emissions
-        pub settle-fits : Given (r .plants) (r .segments) (r .counts) emitted
-        settle-fits = record {
-          counts-within = rw (held .counts) (within .counts);
-          each-plant = rw (plants-front, held .counts) (within .plants);
-          each-segment = rw (segments-front, held .counts) (within .segments);
-          small = added .small;
-        }
+-- ---- the call on tables of numbers
+module _
+    (file : List ℕ) (r : Settled) (settles : SettlePromise file r) (tables : Lent) (answer : Answer)
+    (told : said answer ≡ withTables (r .«plant_count») (r .«segment_count») (length (tables .plants)) (length (tables .segments)) (said (r .answer))) where
+  verdict-is : said answer ≡ rulingVerdict (rulingOn file tables)
+  verdict-is = answer-is file r settles (length (tables .plants)) (length (tables .segments)) answer told
 
-        module _
-            (told : Answer) (tables tables' : Lent)
-            (settles : Settled (take (r .counts .plants) (r .plants)) (take (r .counts .segments) (r .segments)) emitted (said told) tables tables') where
-          -- it comes to the ruling on the file
-          finished : Finished (rulingOn file tables) (said told) tables tables'
-          finished = rw (lines-pass tables) (rw (plants-front, segments-front) at (settles (period .lines) (of-lines .emitted passing)))
+  -- a refusal writes nothing
+  pub call-refuses : (why : Refusal) → answer ≡ Refused why → QuantifyPromise file tables (nothingWritten why) tables
+  call-refuses why is = by-ruling (rulingOn file tables) refl (sym (ap said is) ∙ verdict-is)
+    where
+      by-ruling : (ruling : Ruling) → rulingOn file tables ≡ ruling → refusing why ≡ rulingVerdict ruling → QuantifyPromise file tables (nothingWritten why) tables
+      by-ruling (refusal number place) e verdict = record {
+        hands-back = subst (HandsBack (nothingWritten why)) (sym e) (record { verdict = verdict; plants = refl; segments = refl });
+        leaves = sym (ap (λ (ruling : Ruling). lentAfter ruling tables) e);
+      }
+      by-ruling (accepted plants segments) e verdict = absurd (refuses-not-accepts verdict)
 
-          -- it refuses
-          pub settling-refused : (why : Refusal) → told ≡ Refused why → QuantifyPromise file tables (nothingWritten why) tables'
-          settling-refused why is = refused-promised file why tables tables' (rw is at finished)
-
-          -- it accepts
-          pub settling-accepted :
-              told ≡ Accepted →
-              QuantifyPromise file tables
-              (record { answer = told; «plant_numbers» = plantNumbers * r .counts .plants; «segment_numbers» = segmentNumbers * r .counts .segments })
-              tables'
-          settling-accepted is =
-              let done = rw is at finished in
-              let passed = lines-pass tables in
-              record { hands-back = rw (is, held .counts, passed) (rows-written period tables (done .0 ∙ ap rulingVerdict passed)); leaves = done .1 }
+  -- acceptance writes the rows
+  pub call-accepts :
+      (tables' : Lent) → answer ≡ Accepted →
+      tables' .plants ≡ firstRows (plantRowAt (r .plants)) (r .«plant_count») ++ drop (plantNumbers * r .«plant_count») (tables .plants) →
+      tables' .segments ≡ firstRows (segmentRowAt (r .segments)) (r .«segment_count») ++ drop (segmentNumbers * r .«segment_count») (tables .segments) →
+      QuantifyPromise file tables
+      (record { answer = answer; «plant_numbers» = plantNumbers * r .«plant_count»; «segment_numbers» = segmentNumbers * r .«segment_count» }) tables'
+  call-accepts tables' is plants-written segments-written =
+      let rows = rows-are file r settles (length (tables .plants)) (length (tables .segments)) answer told is in
+      let long = plants-long (r .plants) (r .«plant_count») in
+      let long' = segments-long (r .segments) (r .«segment_count») in
+      record {
+        hands-back = record { verdict = verdict-is; plants = rw rows (sym long); segments = rw rows (sym long') };
+        leaves = rw (rows, long, long') (ap₂ lent plants-written segments-written);
+      }

@@ -1,11 +1,13 @@
--- No two outcomes meet the promise of the call.
+-- No two outcomes meet a promise of this crate.
 use Prim.Native.Nat.{ℕ}
 use mathlib.Core.Path.{_≡_, sym, ap, _∙_}
 use mathlib.Core.List.{List}
 use Rattle.fields.specs.declared.answer.Answer.{Answer}
+use Rattle.fields.specs.Answers.{said}
 use Rattle.fields.proofs.Outcome.{said-once}
+use Rattle.accounts.specs.Rows.{plantRow, segmentRow}
 use Rattle.period.specs.declared.call.Quantified.{Quantified}
-use Rattle.period.specs.Written.{Lent, QuantifyPromise}
+use Rattle.period.specs.Written.{withTables, Lent, QuantifyPromise}
 
 -- an answer by its fields
 abbrev made : Answer → ℕ → ℕ → Quantified
@@ -22,3 +24,16 @@ one-outcome file tables r s tables₁ tables₂ p q = (
       ∙ ap (made (s .answer) (s .«plant_numbers»)) (p .hands-back .segments ∙ sym (q .hands-back .segments)),
   p .leaves ∙ sym (q .leaves),
 )
+
+-- `answer_with_tables`, `plant_row` and `segment_row`: their promises give the result itself
+pub one-answer :
+    (plants segments plantTable segmentTable : ℕ) (settled r s : Answer) → said r ≡ withTables plants segments plantTable segmentTable (said settled) →
+    said s ≡ withTables plants segments plantTable segmentTable (said settled) → r ≡ s
+one-answer plants segments plantTable segmentTable settled r s p q = said-once r s (p ∙ sym q)
+
+pub one-plant-row :
+    (exported fraction stored associated : ℕ) (r s : List ℕ) → r ≡ plantRow exported fraction stored associated → s ≡ plantRow exported fraction stored associated → r ≡ s
+one-plant-row exported fraction stored associated r s p q = p ∙ sym q
+
+pub one-segment-row : (inflow outflow emission plants : ℕ) (r s : List ℕ) → r ≡ segmentRow inflow outflow emission plants → s ≡ segmentRow inflow outflow emission plants → r ≡ s
+one-segment-row inflow outflow emission plants r s p q = p ∙ sym q

@@ -1,12 +1,16 @@
 -- Writing rows of one length into a table, one after another: the loop that does, with one law for its start, a turn, and its end.
 use Prim.Native.Nat.{ℕ, suc, _+_, _*_, _≤_, _<_}
-use mathlib.Core.Path.{_≡_, sym, ap, _∙_}
-use mathlib.Core.List.{List, [], _++_}
+use mathlib.Core.Path.{_≡_, refl, sym, ap, ap₂, _∙_}
+use mathlib.Core.List.{List, [], _∷_, _++_, append-assoc, append-nil, flatMap}
 use native.Mathlib.Nat.{mul-le-mul-left, mul-zero}
 use native.Mathlib.Numerals.{add-one}
 use native.Mathlib.Omega.{arith}
-use lib.ListN.{length, take, drop, length-append}
-use lib.Seq.{take-at, drop-at, drop-drop, length-front, length-take-le}
+use lib.ListN.{length, take, drop, getD, length-append}
+use lib.Seq.{take-suc, take-at, drop-at, drop-drop, length-front, length-take-le}
+use Rattle.fields.specs.Tests.{listed}
+use Rattle.fields.proofs.Testing.{listed-length}
+use Rattle.settling.proofs.Listing.{listed-on}
+use Rattle.period.specs.Written.{firstRows}
 
 -- ---- rows of n numbers, one behind another
 module _ (n : ℕ) (rows : ℕ → List ℕ) (count : ℕ) (entry : List ℕ) where
@@ -51,3 +55,45 @@ module _ {n : ℕ} {rows : ℕ → List ℕ} {count : ℕ} {entry table : List �
   -- all are written
   pub writing-end : count ≤ k → table ≡ rows count ++ drop (n * count) entry
   writing-end all = let here : k ≡ count = omega arith in rw here at (w .so-far)
+
+-- ---- rows as long as each other, by what they are made of
+pub flat-length : {A : Type 0} (row : A → List ℕ) (n : ℕ) → ((x : A) → length (row x) ≡ n) → (all : List A) → length (flatMap row all) ≡ n * length all
+unfolding flatMap
+flat-length row n long [] = rw mul-zero
+flat-length row n long (x ∷ all) = length-append (row x) (flatMap row all) ∙ omega (arith, long x, flat-length row n long all)
+
+-- those of one more come last
+flat-last : {A : Type 0} (row : A → List ℕ) (all : List A) (x : A) → flatMap row (all ++ (x ∷ [])) ≡ flatMap row all ++ row x
+unfolding flatMap
+flat-last row [] x = append-nil (row x)
+flat-last row (y ∷ all) x = ap (λ (l : List ℕ). row y ++ l) (flat-last row all x) ∙ sym (append-assoc (row y) (flatMap row all) (row x))
+
+pub flat-on :
+    {A : Type 0} (row : A → List ℕ) (all : List A) (none : A) (k : ℕ) → k < length all →
+    flatMap row (take (suc k) all) ≡ flatMap row (take k all) ++ row (getD all k none)
+flat-on row all none k below = ap (flatMap row) (take-suc all k none below) ∙ flat-last row (take k all) (getD all k none)
+
+-- ---- rows by their index
+-- how many numbers there are
+pub rows-length : (row : ℕ → List ℕ) (n : ℕ) → ((i : ℕ) → length (row i) ≡ n) → (count : ℕ) → length (firstRows row count) ≡ n * count
+rows-length row n long count = flat-length row n long (listed (λ (i : ℕ). i) 0 count) ∙ ap (λ (k : ℕ). n * k) (listed-length (λ (i : ℕ). i) 0 count)
+
+-- one row more comes last
+pub rows-on : (row : ℕ → List ℕ) (k : ℕ) → firstRows row (suc k) ≡ firstRows row k ++ row k
+rows-on row k = ap (flatMap row) (listed-on (λ (i : ℕ). i) 0 k k (omega arith)) ∙ flat-last row (listed (λ (i : ℕ). i) 0 k) k
+
+-- the rows of a list, by its indices
+rows-from :
+    {A : Type 0} (made : A → List ℕ) (row : ℕ → List ℕ) (none : A) (all : List A) (from : ℕ) →
+    ((i j : ℕ) → from + i ≡ j → i < length all → row j ≡ made (getD all i none)) → flatMap row (listed (λ (i : ℕ). i) from (length all)) ≡ flatMap made all
+unfolding flatMap listed
+rows-from made row none [] from same = refl
+rows-from made row none (x ∷ all) from same =
+    ap₂ _++_ (same 0 from (omega arith) (omega arith))
+    (rows-from made row none all (suc from) (λ i j is below. same (suc i) j (omega arith) (omega arith)))
+
+pub rows-of :
+    {A : Type 0} (made : A → List ℕ) (row : ℕ → List ℕ) (none : A) (all : List A) → ((i : ℕ) → i < length all → row i ≡ made (getD all i none)) →
+    firstRows row (length all) ≡ flatMap made all
+rows-of made row none all same =
+    rows-from made row none all 0 (λ i j is below. let here : j ≡ i = omega arith in ap row here ∙ same i below)

@@ -1,13 +1,39 @@
--- What the call answers and leaves in the two tables, by the ruling of the definitions.
+-- What the call answers and leaves in the two tables, by the ruling of the definitions; and its parts: a row, the room in the tables.
 use Prim.Native.Nat.{ℕ}
 use mathlib.Core.Path.{_≡_}
-use mathlib.Core.List.{List, [], _++_}
-use lib.ListN.{length, drop}
+use mathlib.Core.List.{List, [], _++_, flatMap}
+use lib.ListN.{length, drop, getD}
 use Rattle.fields.specs.declared.answer.Answer.the-variants.{Accepted}
 use Rattle.fields.specs.Answers.{Verdict, accepts, refuses, said}
-use Rattle.accounts.specs.Order.{Ruling, refusal, accepted}
+use Rattle.fields.specs.Tests.{testedBy, listed}
+use Rattle.records.specs.Headers.{announced}
+use Rattle.accounts.specs.Rows.{plantRow, segmentRow}
+use Rattle.accounts.specs.Order.{Ruling, refusal, accepted, tableTests}
 use Rattle.accounts.specs.Quantified.{quantified}
+use Rattle.settling.specs.declared.account.PlantAccounts.{PlantAccounts}
+use Rattle.settling.specs.declared.account.SegmentAccounts.{SegmentAccounts}
 use Rattle.period.specs.declared.call.Quantified.{Quantified}
+
+-- ---- the parts
+-- The row of the plant at an index, by the columns of the accounts, and of a segment.
+abbrev pub plantRowAt : PlantAccounts → ℕ → List ℕ
+plantRowAt accounts p =
+    plantRow (getD (accounts .exported) p 0) (getD (accounts .fraction) p 0) (getD (accounts .stored) p 0) (getD (accounts .associated) p 0)
+
+abbrev pub segmentRowAt : SegmentAccounts → ℕ → List ℕ
+segmentRowAt accounts s =
+    segmentRow (getD (accounts .inflow) s 0) (getD (accounts .outflow) s 0) (getD (accounts .emission) s 0) (getD (accounts .plants) s 0)
+
+-- So many rows, one after another.
+abbrev pub firstRows : (ℕ → List ℕ) → ℕ → List ℕ
+firstRows row count = flatMap row (listed (λ (i : ℕ). i) 0 count)
+
+-- The verdict on a file that was settled, for so many plants and segments, with tables of so many numbers: 14 and 15 come last of all.
+abbrev pub withTables : (plants segments plantTable segmentTable : ℕ) → Verdict → Verdict
+withTables plants segments plantTable segmentTable (refuses number place) = refuses number place
+withTables plants segments plantTable segmentTable accepts = testedBy refuses (tableTests (announced plants segments 0) plantTable segmentTable) accepts
+
+-- ---- the call
 
 -- The two tables that a caller lends.
 pub record Lent : Type 0 where

@@ -1,14 +1,15 @@
 // The call: a period file and two lent tables in, the answer out, and the rows in the tables.
 ghost use mathlib.Core.Path.{_≡_};
-ghost use Rattle.period.specs.Inside.{nothingWritten};
 ghost use Rattle.period.specs.Written.{lent, QuantifyPromise};
-use crate::emissions::add_up;
+ghost use Rattle.period.specs.Inside.{nothingWritten};
+use crate::room::answer_with_tables;
 use crate::rows::PLANT_NUMBERS;
 use crate::rows::SEGMENT_NUMBERS;
-use crate::settling::settle;
+use crate::rows::write_plants;
+use crate::rows::write_segments;
 use fields::Answer;
 use fields::Refusal;
-use records::read;
+use settling::settle;
 
 // The answer to a period file, and how many numbers of each table were written: none where the file is
 // refused.
@@ -23,35 +24,28 @@ pub struct Quantified {
 pub fn quantify(file: &[u8], plant_table: &mut [u64], segment_table: &mut [u64]) -> Quantified
     ensures { λ r. ⌜ QuantifyPromise (now (file .entry)) (lent (now («plant_table» .entry)) (now («segment_table» .entry))) r (lent (now («plant_table» .exit)) (now («segment_table» .exit))) ⌝ }
 {
-    let reading = read(file);
-    let answer = reading.answer;
-    if let Answer::Refused(refusal) = answer {
-        return refused(refusal);
-    }
-    let counts = reading.counts;
-    let lines = reading.lines;
-    let emissions = add_up(lines, counts.lines as usize);
-    let answer = emissions.answer;
-    if let Answer::Refused(refusal) = answer {
-        return refused(refusal);
-    }
-    let plants = reading.plants;
-    let segments = reading.segments;
-    let answer = settle(
+    let settled = settle(file);
+    let answer = settled.answer;
+    let plants = settled.plant_count;
+    let segments = settled.segment_count;
+    let answer = answer_with_tables(
+        answer,
         plants,
         segments,
-        counts,
-        emissions,
-        plant_table,
-        segment_table,
+        plant_table.len(),
+        segment_table.len(),
     );
     if let Answer::Refused(refusal) = answer {
         return refused(refusal);
     }
+    let plant_accounts = settled.plants;
+    write_plants(plant_table, plant_accounts, plants as usize);
+    let segment_accounts = settled.segments;
+    write_segments(segment_table, segment_accounts, segments as usize);
     Quantified {
         answer,
-        plant_numbers: PLANT_NUMBERS * counts.plants as usize,
-        segment_numbers: SEGMENT_NUMBERS * counts.segments as usize,
+        plant_numbers: PLANT_NUMBERS * plants as usize,
+        segment_numbers: SEGMENT_NUMBERS * segments as usize,
     }
 }
 

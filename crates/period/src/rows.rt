@@ -1,17 +1,17 @@
-// The results of plants and segments: their rows, written into the lent tables.
+// The rows of plants and segments: the columns of each, and how they are written into a table of numbers.
 ghost use mathlib.Core.Path.{_≡_};
 ghost use mathlib.Core.List.{_++_};
-ghost use Prim.Native.Nat.{_+_, _*_, _≤_};
+ghost use Prim.Native.Nat.{_+_, _-_, _*_, _≤_};
 ghost use lib.ListN.{length, take, drop};
-ghost use Rattle.number.specs.Groups.{largest};
-ghost use Rattle.records.specs.Plants.{millionths};
+ghost use Rattle.records.specs.Plants.{mostPlants};
+ghost use Rattle.records.specs.Segments.{mostSegments};
 ghost use Rattle.accounts.specs.Rows.{plantRow, segmentRow};
 ghost use Rattle.accounts.specs.Order.{plantNumbers, segmentNumbers};
-ghost use Rattle.period.specs.Inside.{PlantsWritable, plantRowsBy, SegmentsWritable, segmentRowsBy};
-use crate::arithmetic::excess;
-use crate::emissions::Emissions;
+ghost use Rattle.period.specs.Written.{firstRows, plantRowAt, segmentRowAt};
 use records::Plant;
 use records::Segment;
+use settling::PlantAccounts;
+use settling::SegmentAccounts;
 
 // The numbers of a plant's row and of a segment's.
 pub const PLANT_NUMBERS: usize = 8;
@@ -21,86 +21,94 @@ pub const SEGMENT_NUMBERS: usize = 5;
 // A unit is a tonne.
 const KG_IN_UNIT: u64 = 1000;
 
+// A plant's row.
+pub fn plant_row(exported: u32, fraction: u32, stored: u32, associated: u64) -> [u64; PLANT_NUMBERS]
+    ensures { λ r. ⌜ r ≡ plantRow exported fraction stored associated ⌝ }
+{
+    let exported = exported as u64;
+    let stored = stored as u64;
+    let gross = stored * fraction as u64 / Plant::LARGEST_FRACTION;
+    let net = excess(gross, associated);
+    [
+        exported,
+        stored,
+        excess(exported, stored),
+        gross,
+        associated,
+        net,
+        net / KG_IN_UNIT,
+        excess(associated, gross),
+    ]
+}
+
+// A segment's row.
+pub fn segment_row(inflow: u32, outflow: u32, emission: u64, plants: u32) -> [u64; SEGMENT_NUMBERS]
+    ensures { λ r. ⌜ r ≡ segmentRow inflow outflow emission plants ⌝ }
+{
+    let inflow = inflow as u64;
+    let outflow = outflow as u64;
+    [
+        inflow,
+        outflow,
+        excess(inflow, outflow),
+        emission,
+        plants as u64,
+    ]
+}
+
+// m − n, and 0 where n is the larger.
+fn excess(m: u64, n: u64) -> u64
+    ensures { λ r. ⌜ r ≡ m - n ⌝ }
+{
+    if m < n { 0 } else { m - n }
+}
+
 // Writes the rows of so many plants, one after another.
-pub(crate) fn write_plants(
-    table: &mut [u64],
-    plants: [Plant; Plant::MOST],
-    count: usize,
-    stored: [u64; Plant::MOST],
-    associated: [u64; Plant::MOST],
-)
-    requires { ⌜ PlantsWritable plants stored count (length (now table)) ⌝ }
-    ensures { λ _. ⌜ now (table .exit) ≡ plantRowsBy plants stored associated count ++ drop (plantNumbers * count) (now (table .entry)) ⌝ }
+pub(crate) fn write_plants(table: &mut [u64], accounts: PlantAccounts, count: usize)
+    requires { ⌜ count ≤ mostPlants ⌝ }
+    requires { ⌜ plantNumbers * count ≤ length (now table) ⌝ }
+    ensures { λ _. ⌜ now (table .exit) ≡ firstRows (plantRowAt accounts) count ++ drop (plantNumbers * count) (now (table .entry)) ⌝ }
 {
     let mut p = 0;
     while p < count {
-        write_plant(
-            table,
-            PLANT_NUMBERS * p,
-            plants[p],
-            stored[p],
-            associated[p],
+        let row = plant_row(
+            accounts.exported[p],
+            accounts.fraction[p],
+            accounts.stored[p],
+            accounts.associated[p],
         );
+        write_row(table, PLANT_NUMBERS * p, &row);
         p += 1;
     }
 }
 
-// Writes one plant's row.
-fn write_plant(table: &mut [u64], at: usize, plant: Plant, stored: u64, associated: u64)
-    requires { ⌜ at + plantNumbers ≤ length (now table) ⌝ }
-    requires { ⌜ stored ≤ plant .exported ⌝ }
-    requires { ⌜ plant .exported ≤ largest ⌝ }
-    requires { ⌜ plant .fraction ≤ millionths ⌝ }
-    ensures { λ _. ⌜ now (table .exit) ≡ take at (now (table .entry)) ++ plantRow plant stored associated ++ drop (at + plantNumbers) (now (table .entry)) ⌝ }
-{
-    let exported = plant.exported as u64;
-    let gross = stored * plant.fraction as u64 / Plant::LARGEST_FRACTION;
-    let net = excess(gross, associated);
-    table[at] = exported;
-    table[at + 1] = stored;
-    table[at + 2] = exported - stored;
-    table[at + 3] = gross;
-    table[at + 4] = associated;
-    table[at + 5] = net;
-    table[at + 6] = net / KG_IN_UNIT;
-    table[at + 7] = excess(associated, gross);
-}
-
 // Writes the rows of so many segments, one after another.
-pub(crate) fn write_segments(
-    table: &mut [u64],
-    segments: [Segment; Segment::MOST],
-    count: usize,
-    inflows: [u64; Segment::MOST],
-    sets: [u64; Segment::MOST],
-    emissions: [u64; Emissions::OWNERS],
-)
-    requires { ⌜ SegmentsWritable segments inflows count (length (now table)) ⌝ }
-    ensures { λ _. ⌜ now (table .exit) ≡ segmentRowsBy segments inflows sets emissions count ++ drop (segmentNumbers * count) (now (table .entry)) ⌝ }
+pub(crate) fn write_segments(table: &mut [u64], accounts: SegmentAccounts, count: usize)
+    requires { ⌜ count ≤ mostSegments ⌝ }
+    requires { ⌜ segmentNumbers * count ≤ length (now table) ⌝ }
+    ensures { λ _. ⌜ now (table .exit) ≡ firstRows (segmentRowAt accounts) count ++ drop (segmentNumbers * count) (now (table .entry)) ⌝ }
 {
     let mut s = 0;
     while s < count {
-        write_segment(
-            table,
-            SEGMENT_NUMBERS * s,
-            inflows[s],
-            segments[s].outflow as u64,
-            emissions[s],
-            sets[s],
+        let row = segment_row(
+            accounts.inflow[s],
+            accounts.outflow[s],
+            accounts.emission[s],
+            accounts.plants[s],
         );
+        write_row(table, SEGMENT_NUMBERS * s, &row);
         s += 1;
     }
 }
 
-// Writes one segment's row.
-fn write_segment(table: &mut [u64], at: usize, inflow: u64, outflow: u64, emission: u64, set: u64)
-    requires { ⌜ at + segmentNumbers ≤ length (now table) ⌝ }
-    requires { ⌜ outflow ≤ inflow ⌝ }
-    ensures { λ _. ⌜ now (table .exit) ≡ take at (now (table .entry)) ++ segmentRow inflow outflow emission set ++ drop (at + segmentNumbers) (now (table .entry)) ⌝ }
+// Writes the numbers of a row at an index of a table.
+fn write_row(table: &mut [u64], at: usize, row: &[u64])
+    requires { ⌜ at + length (now row) ≤ length (now table) ⌝ }
+    ensures { λ _. ⌜ now (table .exit) ≡ take at (now (table .entry)) ++ now (row .entry) ++ drop (at + length (now (row .entry))) (now (table .entry)) ⌝ }
 {
-    table[at] = inflow;
-    table[at + 1] = outflow;
-    table[at + 2] = inflow - outflow;
-    table[at + 3] = emission;
-    table[at + 4] = set;
+    let mut n = 0;
+    while n < row.len() {
+        table[at + n] = row[n];
+        n += 1;
+    }
 }

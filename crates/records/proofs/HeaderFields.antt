@@ -6,20 +6,17 @@ use mathlib.Core.List.{List, [], _∷_}
 use native.Mathlib.Omega.{arith}
 use lib.Dec.{eqb}
 use lib.ListN.{length, getD}
-use borrow.Author.Tests.{leb-true}
 use Rattle.fields.specs.declared.reason.Reason.{Reason}
 use Rattle.fields.specs.declared.reason.Reason.the-variants.{Ends, WrongEdition, WrongCount}
 use Rattle.fields.specs.Ranges.{anyAmount}
 use Rattle.fields.specs.Readers.{return, onward, allowsNext}
 use Rattle.fields.proofs.ByIndex.{number, spelt, spelt-out}
-use Rattle.fields.proofs.OneRecord.{Wants, Allowed}
-use Rattle.fields.proofs.Ranges.{at-least, at-most}
+use Rattle.fields.proofs.OneRecord.{Wants}
 use Rattle.records.specs.declared.counts.Counts.{Counts}
-use Rattle.records.specs.Plants.{mostPlants, plantsAllowed}
-use Rattle.records.specs.Segments.{mostSegments, segmentsAllowed}
-use Rattle.records.specs.Lines.{mostLines, linesAllowed}
+use Rattle.records.specs.Plants.{plantsAllowed}
+use Rattle.records.specs.Segments.{segmentsAllowed}
+use Rattle.records.specs.Lines.{linesAllowed}
 use Rattle.records.specs.Headers.{edition, announced, header, headerFields}
-use Rattle.records.specs.Within.{CountsWithin}
 use Rattle.records.specs.Inside.{headerReason}
 
 abbrev pub headerReasons : List Reason
@@ -70,16 +67,3 @@ module _ (values : List ℕ) (sized : length values ≡ headerFields) where
   pub header-made : onward header values ≡ return counted
   unfolding spelt onward header
   header-made = ap (onward header) (spelt-out values headerFields sized)
-
-  -- which are within their limits
-  pub header-fits : Allowed header values → CountsWithin counted
-  unfolding spelt Allowed header
-  header-fits passed =
-      let (_, _, (_, plants, (_, segments, (_, lines, _)))) = rw (spelt-out values headerFields sized) at passed in
-      record {
-        some-plants = at-least 1 mostPlants (number values 1) plants;
-        most-plants = at-most 1 mostPlants (number values 1) plants;
-        some-segments = at-least 1 mostSegments (number values 2) segments;
-        most-segments = at-most 1 mostSegments (number values 2) segments;
-        most-lines = leb-true (number values 3) mostLines lines;
-      }

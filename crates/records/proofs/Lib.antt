@@ -4,8 +4,9 @@ mod Table
 mod Classes
 mod HeaderFields
 mod RecordFields
--- The stages of reading a period, and how they end.
-mod WaysOut
+-- What was read of a file from a spot on, by its limits; and a period by its parts.
+pub mod RecordsWithin
+pub mod Parts
 -- What is known along the reading of a period: what a file that was read holds, and how long it is.
 pub mod PeriodAlong
 pub mod Within

@@ -22,20 +22,20 @@ use Rattle.records.proofs.PeriodAlong.{HeaderField, Placed, HeaderRead,
 -- ---- those of a plant, a segment and a line
 plant-takes : (counts : Counts) → Consumes plantNumbersOf (plant counts)
 unfolding Gives plant
-plant-takes counts = λ exported _ first _ fraction _. refl
+plant-takes counts = λ exported _ _ first _ _ fraction _ _. refl
 
 segment-takes : (counts : Counts) (own : ℕ) → Consumes segmentNumbersOf (segment counts own)
 unfolding Gives segment
-segment-takes counts own = λ kind _ outflow _ next _. refl
+segment-takes counts own = λ kind _ _ outflow _ _ next _ _. refl
 
 line-takes : (counts : Counts) → Consumes lineNumbersOf (line counts)
 unfolding Gives line
-line-takes counts = λ ownerKind _ owner _ class _ quantity _ factor _. refl
+line-takes counts = λ ownerKind _ _ owner _ _ class _ _ quantity _ _ factor _ _. refl
 
 -- of the header: the edition, and how many records it announces
 header-takes : Consumes (λ h. edition ∷ h .plants ∷ h .segments ∷ h .lines ∷ []) header
 unfolding Gives header
-header-takes = λ first is plants _ segments _ lines _. rw (← eqb-true edition first is)
+header-takes = λ first _ is plants _ _ segments _ _ lines _ _. rw (← eqb-true edition first is)
 
 -- of all records: those of the plants, of the segments and of the lines, each as many as the header announces
 record Announced (h : Counts) (all : List ℕ) (what : Period) : Type 0 where

@@ -1,33 +1,76 @@
 -- No two outcomes meet a promise of this crate.
-use mathlib.Core.Path.{_≡_, sym, ap, _∙_}
+use mathlib.Core.Path.{_≡_, sym, ap, ap₂, _∙_}
+use mathlib.Core.Bool.{true≢false}
 use mathlib.Core.List.{List}
 use Prim.Native.Nat.{ℕ}
 use Rattle.fields.specs.declared.answer.Answer.{Answer}
-use Rattle.fields.proofs.Outcome.{said-once}
+use Rattle.fields.specs.declared.spot.Spot.{Spot}
+use Rattle.fields.specs.Answers.{said}
+use Rattle.fields.specs.Spots.{firstSpot}
+use Rattle.fields.specs.Reaching.{readsFrom}
+use Rattle.fields.proofs.Outcome.{refusal-once, said-once}
 use Rattle.records.specs.declared.counts.Counts.{Counts}
 use Rattle.records.specs.declared.header.Header.{Header}
 use Rattle.records.specs.declared.limits.Limits.{Limits}
-use Rattle.records.specs.declared.line.Line.{Line}
-use Rattle.records.specs.declared.plant.Plant.{Plant}
-use Rattle.records.specs.declared.reading.Reading.{Reading}
-use Rattle.records.specs.declared.segment.Segment.{Segment}
-use Rattle.records.specs.Headers.{headerOf}
-use Rattle.records.specs.Periods.{periodFile}
+use Rattle.records.specs.declared.reading.header.ReadHeader.{ReadHeader}
+use Rattle.records.specs.declared.reading.header.ReadHeader.the-variants as ReadHeader
+use Rattle.records.specs.declared.reading.plants.ReadPlant.{ReadPlant}
+use Rattle.records.specs.declared.reading.plants.ReadPlant.the-variants as ReadPlant
+use Rattle.records.specs.declared.reading.segments.ReadSegment.{ReadSegment}
+use Rattle.records.specs.declared.reading.segments.ReadSegment.the-variants as ReadSegment
+use Rattle.records.specs.declared.reading.lines.ReadLine.{ReadLine}
+use Rattle.records.specs.declared.reading.lines.ReadLine.the-variants as ReadLine
+use Rattle.records.specs.Headers.{header, headerOf}
+use Rattle.records.specs.Periods.{plant, segment, line}
 use Rattle.records.specs.Limits.{limits}
-use Rattle.records.specs.Held.{Held}
+use Rattle.records.specs.Found.{headerFound, plantFound, segmentFound, lineFound, periodVerdict}
 
--- a reading by its fields
-abbrev made : Answer → Counts → List Plant → List Segment → List Line → Reading
-made answer counts plants segments lines = record { answer = answer; counts = counts; plants = plants; segments = segments; lines = lines }
+-- ---- what was found, of the header or where a record starts, determines the answer
+header-once : (a b : ReadHeader) → headerFound a ≡ headerFound b → a ≡ b
+header-once (ReadHeader.Whole one next) (ReadHeader.Whole other next') e = ap₂ ReadHeader.Whole (cc) (cc)
+header-once (ReadHeader.Whole one next) (ReadHeader.Refused b) e = absurd (true≢false (cc))
+header-once (ReadHeader.Refused a) (ReadHeader.Whole other next') e = absurd (true≢false (cc))
+header-once (ReadHeader.Refused a) (ReadHeader.Refused b) e = ap ReadHeader.Refused (refusal-once a b (cc) (cc))
 
--- `read`: two readings that meet its promise, of one file, are the same
-pub one-reading : (file : List ℕ) (r s : Reading) → Held r (periodFile file) → Held s (periodFile file) → r ≡ s
-one-reading file r s h k =
-    ap (λ (x : Answer). made x (r .counts) (r .plants) (r .segments) (r .lines)) (said-once (r .answer) (s .answer) (h .answer ∙ sym (k .answer)))
-    ∙ ap (λ (x : Counts). made (s .answer) x (r .plants) (r .segments) (r .lines)) (h .counts ∙ sym (k .counts))
-    ∙ ap (λ (x : List Plant). made (s .answer) (s .counts) x (r .segments) (r .lines)) (h .plants ∙ sym (k .plants))
-    ∙ ap (λ (x : List Segment). made (s .answer) (s .counts) (s .plants) x (r .lines)) (h .segments ∙ sym (k .segments))
-    ∙ ap (made (s .answer) (s .counts) (s .plants) (s .segments)) (h .lines ∙ sym (k .lines))
+plant-once : (a b : ReadPlant) → plantFound a ≡ plantFound b → a ≡ b
+plant-once (ReadPlant.Whole one next) (ReadPlant.Whole other next') e = ap₂ ReadPlant.Whole (cc) (cc)
+plant-once (ReadPlant.Whole one next) (ReadPlant.Refused b) e = absurd (true≢false (cc))
+plant-once (ReadPlant.Refused a) (ReadPlant.Whole other next') e = absurd (true≢false (cc))
+plant-once (ReadPlant.Refused a) (ReadPlant.Refused b) e = ap ReadPlant.Refused (refusal-once a b (cc) (cc))
+
+segment-once : (a b : ReadSegment) → segmentFound a ≡ segmentFound b → a ≡ b
+segment-once (ReadSegment.Whole one next) (ReadSegment.Whole other next') e = ap₂ ReadSegment.Whole (cc) (cc)
+segment-once (ReadSegment.Whole one next) (ReadSegment.Refused b) e = absurd (true≢false (cc))
+segment-once (ReadSegment.Refused a) (ReadSegment.Whole other next') e = absurd (true≢false (cc))
+segment-once (ReadSegment.Refused a) (ReadSegment.Refused b) e = ap ReadSegment.Refused (refusal-once a b (cc) (cc))
+
+line-once : (a b : ReadLine) → lineFound a ≡ lineFound b → a ≡ b
+line-once (ReadLine.Whole one next) (ReadLine.Whole other next') e = ap₂ ReadLine.Whole (cc) (cc)
+line-once (ReadLine.Whole one next) (ReadLine.Refused b) e = absurd (true≢false (cc))
+line-once (ReadLine.Refused a) (ReadLine.Whole other next') e = absurd (true≢false (cc))
+line-once (ReadLine.Refused a) (ReadLine.Refused b) e = ap ReadLine.Refused (refusal-once a b (cc) (cc))
+
+-- `read_header`: two answers that meet its promise, of one file, are the same
+pub one-header-read :
+    (file : List ℕ) (r s : ReadHeader) → headerFound r ≡ readsFrom header file firstSpot → headerFound s ≡ readsFrom header file firstSpot → r ≡ s
+one-header-read file r s p q = header-once r s (p ∙ sym q)
+
+-- `read_plant`, `read_segment` and `read_line`: so are two of their answers, of one file at one spot and by one header's counts
+module _ (file : List ℕ) (start : Spot) (counts : Counts) where
+  pub one-plant : (r s : ReadPlant) → plantFound r ≡ readsFrom (plant counts) file start → plantFound s ≡ readsFrom (plant counts) file start → r ≡ s
+  one-plant r s p q = plant-once r s (p ∙ sym q)
+
+  pub one-segment :
+      (own : ℕ) (r s : ReadSegment) → segmentFound r ≡ readsFrom (segment counts own) file start →
+      segmentFound s ≡ readsFrom (segment counts own) file start → r ≡ s
+  one-segment own r s p q = segment-once r s (p ∙ sym q)
+
+  pub one-line : (r s : ReadLine) → lineFound r ≡ readsFrom (line counts) file start → lineFound s ≡ readsFrom (line counts) file start → r ≡ s
+  one-line r s p q = line-once r s (p ∙ sym q)
+
+-- `verdict`: so are two of its answers, of one file
+pub one-verdict : (file : List ℕ) (r s : Answer) → said r ≡ periodVerdict file → said s ≡ periodVerdict file → r ≡ s
+one-verdict file r s p q = said-once r s (p ∙ sym q)
 
 -- `header_of` and `Limits::new`: their promises give the result itself
 pub one-header : (file : List ℕ) (r s : Header) → r ≡ headerOf file → s ≡ headerOf file → r ≡ s

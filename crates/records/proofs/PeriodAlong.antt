@@ -1,7 +1,7 @@
 -- The reading of a period, along its fields: which field stands at which place, by what the header announces; there is room for it in the
 -- longest file; and what is held in the end is as announced, each record within its limits.
 use Prim.Native.Nat.{ℕ, suc, _+_, _*_, _≤_, _<_}
-use mathlib.Core.Path.{_≡_, refl, sym, _∙_}
+use mathlib.Core.Path.{_≡_, refl}
 use mathlib.Core.List.{List}
 use native.Mathlib.Omega.{arith}
 use borrow.Author.Tests.{leb-true, eqb-true}
@@ -11,18 +11,17 @@ use Rattle.fields.specs.declared.reason.Reason.the-variants.{WrongEdition, Wron
 use Rattle.fields.specs.Reasons.{numberOf}
 use Rattle.fields.specs.Lists.{Each}
 use Rattle.fields.proofs.Along.{Along, done, one-field, one-then, along-on, so-many}
-use Rattle.fields.proofs.Ranges.{at-least, at-most}
+use Rattle.fields.proofs.Ranges.{at-most}
 use Rattle.records.specs.declared.counts.Counts.{Counts}
-use Rattle.records.specs.declared.segment.Segment.{Segment}
-use Rattle.records.specs.declared.line.Line.{Line}
 use Rattle.records.specs.Plants.{mostPlants, plantFields, plantBytes, millionths}
 use Rattle.records.specs.Segments.{mostSegments, segmentFields, segmentBytes, pipeline, store}
 use Rattle.records.specs.Classes.{segmentOwner, classes}
 use Rattle.records.specs.Lines.{mostLines, lineFields, lineBytes, largestFactor}
 use Rattle.records.specs.Headers.{edition, header, headerFields, headerBytes}
 use Rattle.records.specs.Periods.{Period, plant, segment, line, records, period, mostBytes}
-use Rattle.records.specs.Within.{CountsWithin, countsOf, PlantWithin, SegmentWithin, KindWithin, LineWithin, ClassWithin}
-use Rattle.records.proofs.FieldRanges.{next-at-most, next-is, owner-at-most, owner-plant, owner-segment, some-owner}
+use Rattle.records.specs.Within.{CountsWithin, countsOf, PlantWithin}
+use Rattle.records.proofs.FieldRanges.{next-at-most, owner-at-most}
+use Rattle.records.proofs.RecordsWithin.{SegmentRead, LineRead, counts-fit, plant-fit, segment-fit, line-fit}
 use Rattle.records.proofs.Classes.{code-at-most}
 
 -- ---- the places and the reasons of fields
@@ -62,13 +61,6 @@ segmentsEnd = plantsEnd + segmentBytes * mostSegments
 abbrev pub Placed : ((place : ℕ) → Reason → Type 0) → (place at : ℕ) → Reason → Type 0
 Placed Field place at reason = Field place reason × (at + mostGroups ≤ mostBytes)
 
--- a segment with its kind, and a line with its class
-abbrev pub SegmentRead : Counts → (own : ℕ) → Segment → Type 0
-SegmentRead counts own one = SegmentWithin counts own one × KindWithin counts own one
-
-abbrev pub LineRead : Counts → (own : ℕ) → Line → Type 0
-LineRead counts own one = LineWithin counts own one × ClassWithin own one
-
 -- what is held behind the header: so many records of each kind as it announces, each within its limits
 pub record Holds (h : Counts) (what : Period) : Type 0 where
   pub counts : CountsWithin h
@@ -96,16 +88,7 @@ module _ (file : List ℕ) where
       one-field 1 (count-field (omega arith), omega arith) (λ v _ t. omega (arith, at-most 1 mostPlants v t)) (λ plants b _ p to-b.
       one-field 1 (count-field (omega arith), omega arith) (λ v _ t. omega (arith, at-most 1 mostSegments v t)) (λ segments c _ s to-c.
       one-field 2 (count-field (omega arith), omega arith) (λ v _ t. omega (arith, leb-true v mostLines t)) (λ lines d _ l to-d.
-      done (
-        record {
-          some-plants = at-least 1 mostPlants plants p;
-          most-plants = at-most 1 mostPlants plants p;
-          some-segments = at-least 1 mostSegments segments s;
-          most-segments = at-most 1 mostSegments segments s;
-          most-lines = leb-true lines mostLines l;
-        },
-        omega arith,
-      )))))
+      done (counts-fit plants segments lines p s l, omega arith)))))
 
   module _ (h : Counts) (counts : CountsWithin h) where
     -- so many plants end at this place, and at this byte at the latest; and so many segments, and lines
@@ -131,15 +114,7 @@ module _ (file : List ℕ) where
         one-field 5 (plant-field (omega arith), omega arith) (λ v small _. omega arith) (λ exported a small _ to-a.
         one-field 1 (plant-field (omega arith), omega arith) (λ v _ t. omega (arith, at-most 1 S v t)) (λ first b _ f to-b.
         one-field 3 (plant-field (omega arith), omega arith) (λ v _ t. omega (arith, leb-true v millionths t)) (λ fraction c _ m to-c.
-        done (
-          record {
-            exported = small;
-            some-first = at-least 1 S first f;
-            first = at-most 1 S first f;
-            fraction = leb-true fraction millionths m;
-          },
-          omega arith,
-        ))))
+        done (plant-fit h (suc index) exported first fraction small f m, omega arith))))
 
     -- a segment
     segment-along :
@@ -153,7 +128,7 @@ module _ (file : List ℕ) where
         one-field 1 (segment-field (omega arith), omega arith) (λ v _ t. omega (arith, at-most pipeline store v t)) (λ kind a _ k to-a.
         one-field 5 (segment-field (omega arith), omega arith) (λ v small _. omega arith) (λ outflow b small _ to-b.
         one-field 1 (segment-field (omega arith), omega arith) (λ v _ t. omega (arith, next-at-most h (suc index) kind v t)) (λ next c _ n to-c.
-        done ((record { outflow = small; next = next-is h (suc index) kind next k n }, record { kind = k; next = n }), omega arith))))
+        done (segment-fit h (suc index) kind outflow next k small n, omega arith))))
 
     -- a line
     line-along :
@@ -162,8 +137,6 @@ module _ (file : List ℕ) where
         (line h) place at
     unfolding line classes
     line-along index place at its (here, byte) =
-        let P = h .plants in
-        let S = h .segments in
         let p = counts .most-plants in
         let s = counts .most-segments in
         let l = counts .most-lines in
@@ -172,21 +145,7 @@ module _ (file : List ℕ) where
         one-field 1 (line-field (omega arith), omega arith) (λ v _ t. omega (arith, code-at-most ownerKind v t)) (λ class c _ is to-c.
         one-field 5 (line-field (omega arith), omega arith) (λ v small _. omega arith) (λ quantity d small _ to-d.
         one-field 5 (line-field (omega arith), omega arith) (λ v _ t. omega (arith, leb-true v largestFactor t)) (λ factor e _ f to-e.
-        let kind-is : ownerKind ≤ segmentOwner = leb-true ownerKind segmentOwner k in
-        done (
-          (
-            record {
-              owner-kind = kind-is;
-              some-owner = some-owner h ownerKind owner kind-is o;
-              plant = λ is. at-most 1 P owner (sym (owner-plant h ownerKind owner is) ∙ o);
-              segment = λ is. at-most 1 S owner (sym (owner-segment h ownerKind owner is) ∙ o);
-              quantity = small;
-              factor = leb-true factor largestFactor f;
-            },
-            is,
-          ),
-          omega arith,
-        ))))))
+        done (line-fit h (suc index) ownerKind owner class quantity factor k o is small f, omega arith))))))
 
     -- as many records of each kind as the header announces
     pub records-along :

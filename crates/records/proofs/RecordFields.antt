@@ -4,7 +4,6 @@ use Prim.Native.Nat.{ℕ, zero, suc, _≤_}
 use mathlib.Core.Path.{_≡_, refl, ap}
 use mathlib.Core.Bool.{Bool, true}
 use mathlib.Core.List.{List, [], _∷_}
-use native.Mathlib.Omega.{arith}
 use lib.ListN.{length, replicate}
 use borrow.Author.Tests.{leb-true}
 use Rattle.number.specs.Groups.{largest}
@@ -17,12 +16,10 @@ use Rattle.fields.proofs.OneRecord.{Wants, Allowed}
 use Rattle.fields.proofs.Ranges.{at-most}
 use Rattle.records.specs.declared.counts.Counts.{Counts}
 use Rattle.records.specs.Plants.{plantFields, millionths, firstAllowed, fractionAllowed, plantOf}
-use Rattle.records.specs.Segments.{mostSegments, segmentFields, pipeline, store, kindAllowed, nextAllowed, segmentOf}
+use Rattle.records.specs.Segments.{segmentFields, pipeline, store, kindAllowed, nextAllowed, segmentOf}
 use Rattle.records.specs.Classes.{classes, segmentOwner, classAllowed}
 use Rattle.records.specs.Lines.{lineFields, largestFactor, ownerKindAllowed, ownerAllowed, factorAllowed, lineOf}
 use Rattle.records.specs.Periods.{plant, segment, line}
-use Rattle.records.specs.Within.{CountsWithin}
-use Rattle.records.proofs.FieldRanges.{next-at-most, owner-at-most}
 use Rattle.records.proofs.Classes.{code-at-most}
 
 module _ (counts : Counts) where
@@ -64,15 +61,11 @@ module _ (counts : Counts) where
 
     -- whose fields fit it
     pub plant-fits :
-        Allowed (plant counts) values → CountsWithin counts →
-        (number values 0 ≤ largest) × (number values 1 ≤ mostSegments) × (number values 2 ≤ millionths)
+        Allowed (plant counts) values → (number values 0 ≤ largest) × (number values 1 ≤ largest) × (number values 2 ≤ millionths)
     unfolding spelt Allowed plant
-    plant-fits passed within =
-        let (exported, _, (_, first, (_, fraction, _))) = rw (spelt-out values plantFields sized) at passed in (
-          exported,
-          omega (arith, at-most 1 (counts .segments) (number values 1) first, within .most-segments),
-          leb-true (number values 2) millionths fraction,
-        )
+    plant-fits passed =
+        let (exported, _, (first, _, (_, fraction, _))) = rw (spelt-out values plantFields sized) at passed in
+        (exported, first, leb-true (number values 2) millionths fraction)
 
   -- ---- the segment with its own number
   module _ (own : ℕ) where
@@ -114,15 +107,11 @@ module _ (counts : Counts) where
 
       -- whose fields fit it
       pub segment-fits :
-          Allowed (segment counts own) values → CountsWithin counts →
-          (number values 0 ≤ store) × (number values 1 ≤ largest) × (number values 2 ≤ mostSegments)
+          Allowed (segment counts own) values → (number values 0 ≤ store) × (number values 1 ≤ largest) × (number values 2 ≤ largest)
       unfolding spelt Allowed segment
-      segment-fits passed within =
-          let (_, kind, (outflow, _, (_, next, _))) = rw (spelt-out values segmentFields sized) at passed in (
-            at-most pipeline store (number values 0) kind,
-            outflow,
-            omega (arith, next-at-most counts own (number values 0) (number values 2) next, within .most-segments),
-          )
+      segment-fits passed =
+          let (_, kind, (outflow, _, (next, _, _))) = rw (spelt-out values segmentFields sized) at passed in
+          (at-most pipeline store (number values 0) kind, outflow, next)
 
   -- ---- a line
   abbrev pub lineReasons : List Reason
@@ -171,18 +160,17 @@ module _ (counts : Counts) where
 
     -- whose fields fit it
     pub line-fits :
-        Allowed (line counts) values → CountsWithin counts →
+        Allowed (line counts) values →
         (number values 0 ≤ segmentOwner)
-        × (number values 1 ≤ mostSegments)
+        × (number values 1 ≤ largest)
         × (number values 2 ≤ length classes)
         × (number values 3 ≤ largest)
         × (number values 4 ≤ largestFactor)
     unfolding spelt Allowed line
-    line-fits passed within =
-        let (_, kind, (_, owner, (_, class, (quantity, _, (_, factor, _))))) = rw (spelt-out values lineFields sized) at passed in
-        let few : counts .plants ≤ mostSegments = omega (arith, within .most-plants) in (
+    line-fits passed =
+        let (_, kind, (owner, _, (_, class, (quantity, _, (_, factor, _))))) = rw (spelt-out values lineFields sized) at passed in (
           leb-true (number values 0) segmentOwner kind,
-          owner-at-most counts (number values 0) (number values 1) mostSegments few (within .most-segments) owner,
+          owner,
           code-at-most (number values 0) (number values 2) class,
           quantity,
           leb-true (number values 4) largestFactor factor,

@@ -10,7 +10,8 @@ pub mod Headers
 pub mod Periods
 pub mod Numbers
 pub mod Within
--- the code's limits and readings in these terms
-pub mod Limits
 pub mod Held
+-- the code's limits and findings in these terms
+pub mod Limits
+pub mod Found
 pub mod Inside

@@ -47,12 +47,22 @@ line counts = do
   factor ← field WrongLine factorAllowed
   return (lineOf ownerKind owner class quantity factor)
 
--- The records that the header announces. Plants, segments and lines are numbered from 1.
+-- As many of each kind as the header announces, numbered from 1.
+abbrev pub plantsOf : Counts → Reader (List Plant)
+plantsOf counts = each (λ (own : ℕ). plant counts) 1 (counts .plants)
+
+abbrev pub segmentsOf : Counts → Reader (List Segment)
+segmentsOf counts = each (segment counts) 1 (counts .segments)
+
+abbrev pub linesOf : Counts → Reader (List Line)
+linesOf counts = each (λ (own : ℕ). line counts) 1 (counts .lines)
+
+-- The records behind the header.
 unfoldable pub records : Counts → Reader Period
 records counts = do
-  plants ← each (λ (own : ℕ). plant counts) 1 (counts .plants)
-  segments ← each (segment counts) 1 (counts .segments)
-  lines ← each (λ (own : ℕ). line counts) 1 (counts .lines)
+  plants ← plantsOf counts
+  segments ← segmentsOf counts
+  lines ← linesOf counts
   return (record { plants = plants; segments = segments; lines = lines })
 
 -- The numbers of the file, from the first to the last.

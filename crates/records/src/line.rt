@@ -5,7 +5,6 @@ ghost use lib.ListN.{length, take};
 ghost use Rattle.number.specs.Groups.{largest};
 ghost use Rattle.fields.specs.Readers.{allowsNext, onward};
 ghost use Rattle.records.specs.Periods.{line};
-ghost use Rattle.records.specs.Segments.{mostSegments};
 ghost use Rattle.records.specs.Classes.{classes, segmentOwner};
 ghost use Rattle.records.specs.Lines.{
   factorAllowed,
@@ -23,7 +22,7 @@ use crate::segment::Segment;
 pub struct Line {
     // Whether a plant or a segment owns it, and which.
     pub owner_kind: u8,
-    pub owner: u8,
+    pub owner: u32,
     pub class: u8,
     pub quantity: u32,
     // Grams CO2e per unit of the quantity.
@@ -92,12 +91,12 @@ impl Line {
 
     // The line of fields that have passed their tests.
     pub(crate) fn new(owner_kind: u64, owner: u64, class: u64, quantity: u64, factor: u64) -> Line
-        requires { ⌜ («owner_kind» ≤ segmentOwner) × (owner ≤ mostSegments) × (class ≤ length classes) × (quantity ≤ largest) × (factor ≤ largestFactor) ⌝ }
+        requires { ⌜ («owner_kind» ≤ segmentOwner) × (owner ≤ largest) × (class ≤ length classes) × (quantity ≤ largest) × (factor ≤ largestFactor) ⌝ }
         ensures { λ r. ⌜ r ≡ lineOf «owner_kind» owner class quantity factor ⌝ }
     {
         Line {
             owner_kind: owner_kind as u8,
-            owner: owner as u8,
+            owner: owner as u32,
             class: class as u8,
             quantity: quantity as u32,
             factor: factor as u32,

@@ -3,7 +3,6 @@ ghost use mathlib.Core.Path.{_≡_};
 ghost use Prim.Native.Nat.{_≤_};
 ghost use Rattle.number.specs.Groups.{largest};
 ghost use Rattle.records.specs.Plants.{firstAllowed, fractionAllowed, millionths, plantOf, plantsAllowed};
-ghost use Rattle.records.specs.Segments.{mostSegments};
 ghost use Rattle.records.specs.Inside.{plantAllows};
 use crate::counts::Counts;
 
@@ -11,7 +10,7 @@ pub struct Plant {
     // What it exported, in kg.
     pub exported: u32,
     // The number of the first segment of its route.
-    pub first: u8,
+    pub first: u32,
     // Its origin fraction, in millionths.
     pub fraction: u32,
 }
@@ -64,12 +63,12 @@ impl Plant {
 
     // The plant of fields that have passed their tests.
     pub(crate) fn new(exported: u64, first: u64, fraction: u64) -> Plant
-        requires { ⌜ (exported ≤ largest) × (first ≤ mostSegments) × (fraction ≤ millionths) ⌝ }
+        requires { ⌜ (exported ≤ largest) × (first ≤ largest) × (fraction ≤ millionths) ⌝ }
         ensures { λ r. ⌜ r ≡ plantOf exported first fraction ⌝ }
     {
         Plant {
             exported: exported as u32,
-            first: first as u8,
+            first: first as u32,
             fraction: fraction as u32,
         }
     }

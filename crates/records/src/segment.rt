@@ -7,7 +7,6 @@ ghost use Rattle.fields.specs.Readers.{allowsNext, onward};
 ghost use Rattle.records.specs.Periods.{segment};
 ghost use Rattle.records.specs.Segments.{
   kindAllowed,
-  mostSegments,
   nextAllowed,
   segmentOf,
   segmentsAllowed,
@@ -21,7 +20,7 @@ pub struct Segment {
     // Its metered outflow, in kg.
     pub outflow: u32,
     // The number of the next segment, and 0 behind a store.
-    pub next: u8,
+    pub next: u32,
 }
 
 impl Segment {
@@ -92,13 +91,13 @@ impl Segment {
 
     // The segment of fields that have passed their tests.
     pub(crate) fn new(kind: u64, outflow: u64, next: u64) -> Segment
-        requires { ⌜ (kind ≤ store) × (outflow ≤ largest) × (next ≤ mostSegments) ⌝ }
+        requires { ⌜ (kind ≤ store) × (outflow ≤ largest) × (next ≤ largest) ⌝ }
         ensures { λ r. ⌜ r ≡ segmentOf kind outflow next ⌝ }
     {
         Segment {
             kind: kind as u8,
             outflow: outflow as u32,
-            next: next as u8,
+            next: next as u32,
         }
     }
 }

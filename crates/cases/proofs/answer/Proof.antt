@@ -45,6 +45,12 @@ same-length c = search needs
 returns-3 : tie.Need-returns-3
 returns-3 c = search needs
 
+slice-reshare-prefix-put-answer : tie.Need-slice-reshare-prefix-put-answer
+slice-reshare-prefix-put-answer c = search needs
+
+slice-aggregate-put-answer : tie.Need-slice-aggregate-put-answer
+slice-aggregate-put-answer c = sym (length-take-le _ _ (omega arith))
+
 put-answer-requires : tie.Need-put-answer-requires
 put-answer-requires c κs = search needs
 
@@ -53,6 +59,9 @@ print-front-requires c κs = search needs
 
 same-length-2 : tie.Need-same-length-2
 same-length-2 c = search needs
+
+same-length-3 : tie.Need-same-length-3
+same-length-3 c = search needs
 
 returns-4 : tie.Need-returns-4
 returns-4 c = search needs
@@ -74,7 +83,10 @@ answer-spec =
     take-file-requires
     same-length
     returns-3
+    slice-reshare-prefix-put-answer
+    slice-aggregate-put-answer
     put-answer-requires
     print-front-requires
     same-length-2
+    same-length-3
     returns-4)

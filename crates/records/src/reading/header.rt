@@ -1,8 +1,9 @@
 // The header, read number by number.
 ghost use mathlib.Core.Path.{_≡_};
-ghost use Rattle.fields.specs.Spots.{firstSpot, readsAt};
+ghost use Rattle.fields.specs.Spots.{firstSpot};
+ghost use Rattle.fields.specs.Reaching.{readsFrom};
 ghost use Rattle.records.specs.Headers.{header, headerOf};
-ghost use Rattle.records.specs.Inside.{headerRead};
+ghost use Rattle.records.specs.Found.{headerFound};
 use crate::counts::Counts;
 use crate::header::Header;
 use fields::Refusal;
@@ -11,14 +12,14 @@ use fields::Taken;
 use fields::take;
 
 // The header's counts, and where the first record starts; or why the file is refused.
-pub(crate) enum ReadHeader {
+pub enum ReadHeader {
     Whole(Counts, Spot),
     Refused(Refusal),
 }
 
 // Reads the header, at the start of the file: each number is tested before the next one is taken.
-pub(crate) fn read_header(file: &[u8]) -> ReadHeader
-    ensures { λ r. ⌜ headerRead (now (file .entry)) r (readsAt header (now (file .entry)) firstSpot) ⌝ }
+pub fn read_header(file: &[u8]) -> ReadHeader
+    ensures { λ r. ⌜ headerFound r ≡ readsFrom header (now (file .entry)) firstSpot ⌝ }
 {
     let mut values = [0u64; Header::FIELDS];
     let mut at = Spot::first();

@@ -11,8 +11,8 @@ use Rattle.inspect.proofs.ending.put_ending.Tie as tie
 step-at-requires : tie.Need-step-at-requires
 step-at-requires c κs = search needs
 
-read-requires : tie.Need-read-requires
-read-requires c κs = search needs
+verdict-requires : tie.Need-verdict-requires
+verdict-requires c κs = search needs
 
 stop-of-requires : tie.Need-stop-of-requires
 stop-of-requires c κs = search needs
@@ -39,7 +39,7 @@ returns : tie.Need-returns
 returns c =
     let a = c .before .before .before .before .before .before .before .before .before .before .before .before .before .before .before .before .before .before .before .args in
     let step = c .before .before .before .before .before .before .before .before .before .before .before .before .before .before .before .before .step-at in
-    let reading = c .before .before .before .before .before .before .before .before .before .before .before .before .before .before .before .read in
+    let verdict = c .before .before .before .before .before .before .before .before .before .before .before .before .before .before .before .verdict in
     let text =
     page-end
     (now (a .file))
@@ -48,9 +48,9 @@ returns c =
     (a .spot .byte)
     (a .field)
     (step .result .found)
-    (reading .result .answer)
+    (verdict .result)
     (ap (λ (s : Stepped). s .found) (step .ensures))
-    (reading .ensures .answer)
+    (verdict .ensures)
     (c .before .before .before .before .before .before .before .before .before .before .before .before .before .stop-of .ensures)
     (c .before .before .before .refusal .ensures) in
     rw text (put-then (put-then (c .before .before .before .before .before .before .before .before .before .before .before .put-stopped-at .ensures) (c .before .before .before .before .before .before .before .put-verdict .ensures)) (c .before .before .put-stop .ensures))
@@ -60,7 +60,7 @@ put-ending-spec =
     tie.close
     (tie.spec
     step-at-requires
-    read-requires
+    verdict-requires
     stop-of-requires
     put-stopped-at-requires
     put-verdict-requires

@@ -1,71 +1,64 @@
 -- `period::rows::write_segments` meets its contract: its loop writes rows of one length, whose laws hold for any such rows. Assumes nothing.
 use Prim.Native.Nat.{_-_}
 use mathlib.Core.Path.{refl}
+use mathlib.Core.List.{flatMap}
 use native.Mathlib.Omega.{arith}
-use lib.ListN.{getD}
-use mir.Syntax.{w64}
-use mir.Val.{Fits}
-use denote.Ref.{now}
 use borrow.Author.Needs.{needs}
+use Rattle.fields.specs.Tests.{listed}
 use Rattle.accounts.specs.Order.{segmentNumbers}
-use Rattle.period.specs.Inside.{segmentRowsBy}
-use Rattle.period.proofs.RowsWritten.{Writing, writing-start, writing-length, writing-room, writing-on, writing-end}
+use Rattle.period.specs.Written.{firstRows, segmentRowAt}
+use Rattle.period.proofs.RowsWritten.{Writing, writing-start, writing-length, writing-room, writing-on, writing-end, rows-on}
 use Rattle.period.proofs.rows.write_segments.Statement.{statement}
 use Rattle.period.proofs.rows.write_segments.Tie as tie
 
 abbrev Inv-loop : tie.InvT-loop
-Inv-loop table₀ count segments inflows sets emissions s₀ table s = Writing segmentNumbers (segmentRowsBy segments inflows sets emissions) count table₀ table s
+Inv-loop table₀ count accounts s₀ table s = Writing segmentNumbers (firstRows (segmentRowAt accounts)) count table₀ table s
 
 abbrev μ-loop : tie.MeasureT-loop
-μ-loop table₀ count segments inflows sets emissions s₀ table s = count - s
+μ-loop table₀ count accounts s₀ table s = count - s
 
 loop-holds : tie.Need-loop-holds Inv-loop μ-loop
-unfolding segmentRowsBy
-loop-holds c =
-    let a = c .before .args in
-    writing-start segmentNumbers (segmentRowsBy (a .t2) (a .t4) (a .t5) (a .t6)) (a .count)
-    (now (a .table)) (c .before .pre .enough) refl
+unfolding flatMap listed
+loop-holds c = writing-start segmentNumbers _ _ _ (c .before .pre .1) refl
 
-mul-write-segment : tie.Need-mul-write-segment Inv-loop μ-loop
-mul-write-segment c = omega arith
+mul-segment-row : tie.Need-mul-segment-row Inv-loop μ-loop
+mul-segment-row c = omega arith
 
-mul-write-segment-2 : tie.Need-mul-write-segment-2 Inv-loop μ-loop
-mul-write-segment-2 c = omega arith
+element-copy-out-segment-row : tie.Need-element-copy-out-segment-row Inv-loop μ-loop
+element-copy-out-segment-row c = omega arith
 
-array-read-write-segment : tie.Need-array-read-write-segment Inv-loop μ-loop
-array-read-write-segment c = omega arith
+mul-segment-row-2 : tie.Need-mul-segment-row-2 Inv-loop μ-loop
+mul-segment-row-2 c = omega arith
 
-mul-write-segment-3 : tie.Need-mul-write-segment-3 Inv-loop μ-loop
-mul-write-segment-3 c = omega arith
+element-copy-out-segment-row-2 : tie.Need-element-copy-out-segment-row-2 Inv-loop μ-loop
+element-copy-out-segment-row-2 c = omega arith
 
-element-copy-out-write-segment : tie.Need-element-copy-out-write-segment Inv-loop μ-loop
-element-copy-out-write-segment c = omega arith
+mul-segment-row-3 : tie.Need-mul-segment-row-3 Inv-loop μ-loop
+mul-segment-row-3 c = omega arith
 
-cast-write-segment : tie.Need-cast-write-segment Inv-loop μ-loop
-cast-write-segment c =
-    let start = c .before .before .before .before in
-    let s = c .before .before .loop .s in
-    let inflow-fits : Fits w64 (getD (start .args .t4) s 0) = search needs in
-    omega (arith, start .pre .outflow s (c .before .loop-test .taken))
+element-copy-out-segment-row-3 : tie.Need-element-copy-out-segment-row-3 Inv-loop μ-loop
+element-copy-out-segment-row-3 c = omega arith
 
-mul-write-segment-4 : tie.Need-mul-write-segment-4 Inv-loop μ-loop
-mul-write-segment-4 c = omega arith
+mul-segment-row-4 : tie.Need-mul-segment-row-4 Inv-loop μ-loop
+mul-segment-row-4 c = omega arith
 
-array-read-write-segment-2 : tie.Need-array-read-write-segment-2 Inv-loop μ-loop
-array-read-write-segment-2 c = omega arith
+element-copy-out-segment-row-4 : tie.Need-element-copy-out-segment-row-4 Inv-loop μ-loop
+element-copy-out-segment-row-4 c = omega arith
 
-mul-write-segment-5 : tie.Need-mul-write-segment-5 Inv-loop μ-loop
-mul-write-segment-5 c = omega arith
+segment-row-requires : tie.Need-segment-row-requires Inv-loop μ-loop
+segment-row-requires c κs = search needs
 
-array-read-write-segment-3 : tie.Need-array-read-write-segment-3 Inv-loop μ-loop
-array-read-write-segment-3 c = omega arith
+mul-write-row : tie.Need-mul-write-row Inv-loop μ-loop
+mul-write-row c = omega arith
 
-write-segment-requires : tie.Need-write-segment-requires Inv-loop μ-loop
-write-segment-requires c κs =
-    let pre = c .before .before .before .before .pre in
-    let l = c .before .before .loop in
-    let more = c .before .loop-test .taken in
-    (writing-room (l .inv) more, pre .outflow (l .s) more)
+slice-aggregate-write-row : tie.Need-slice-aggregate-write-row Inv-loop μ-loop
+slice-aggregate-write-row c = search needs
+
+write-row-requires : tie.Need-write-row-requires Inv-loop μ-loop
+write-row-requires c κs =
+    let made = c .before .before in
+    let turn = made .before .before .before .before .before in
+    rw (made .segment-row .ensures) (writing-room (turn .before .loop .inv) (turn .loop-test .taken))
 
 add-s : tie.Need-add-s Inv-loop μ-loop
 add-s c = omega arith
@@ -74,10 +67,13 @@ loop-less : tie.Need-loop-less Inv-loop μ-loop
 loop-less c = omega arith
 
 loop-again : tie.Need-loop-again Inv-loop μ-loop
-unfolding segmentRowsBy
 loop-again c =
-    let turn = c .before .before .before .before in
-    writing-on (turn .before .loop .inv) (turn .loop-test .taken) _ _ refl refl (c .before .before .write-segment .ensures)
+    let written = c .before .before in
+    let made = written .before .before .before in
+    let turn = made .before .before .before .before .before in
+    let l = turn .before .loop in
+    writing-on (l .inv) (turn .loop-test .taken) _ _ refl (rows-on (segmentRowAt (turn .before .before .before .args .t2)) (l .s))
+    (rw (made .segment-row .ensures) at (written .write-row .ensures))
 
 same-length : tie.Need-same-length Inv-loop μ-loop
 same-length c = writing-length (c .before .loop .inv)
@@ -92,17 +88,18 @@ write-segments-spec =
     Inv-loop
     μ-loop
     loop-holds
-    mul-write-segment
-    mul-write-segment-2
-    array-read-write-segment
-    mul-write-segment-3
-    element-copy-out-write-segment
-    cast-write-segment
-    mul-write-segment-4
-    array-read-write-segment-2
-    mul-write-segment-5
-    array-read-write-segment-3
-    write-segment-requires
+    mul-segment-row
+    element-copy-out-segment-row
+    mul-segment-row-2
+    element-copy-out-segment-row-2
+    mul-segment-row-3
+    element-copy-out-segment-row-3
+    mul-segment-row-4
+    element-copy-out-segment-row-4
+    segment-row-requires
+    mul-write-row
+    slice-aggregate-write-row
+    write-row-requires
     add-s
     loop-less
     loop-again

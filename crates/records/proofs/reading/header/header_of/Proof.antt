@@ -1,7 +1,12 @@
 -- `records::reading::header::header_of` meets its contract: it tells what the reading of the header came to. Assumes nothing.
-use mathlib.Core.Path.{sym, ap}
+use mathlib.Core.Path.{sym, ap, _∙_}
+use native.Mathlib.Omega.{arith}
+use denote.Ref.{now}
 use borrow.Author.Needs.{needs}
-use Rattle.records.specs.Headers.{telling, headerOf}
+use Rattle.fields.specs.Spots.{firstSpot}
+use Rattle.fields.specs.Reaching.{asRead}
+use Rattle.fields.proofs.Reaching.{first-counted, reads-as}
+use Rattle.records.specs.Headers.{header, telling, headerOf}
 use Rattle.records.proofs.reading.header.header_of.Statement.{statement}
 use Rattle.records.proofs.reading.header.header_of.Tie as tie
 
@@ -16,11 +21,17 @@ enum-known-counts c = search needs
 
 returns : tie.Need-returns
 unfolding headerOf
-returns c = sym (ap telling (rw (c .before .-refusal .given .1) at (c .before .before .before .read-header .ensures)))
+returns c =
+    let file = now (c .before .before .before .before .before .args .file) in
+    let came = rw (c .before .-refusal .given .1) at (c .before .before .before .read-header .ensures) in
+    sym (ap telling (reads-as file (omega arith) header firstSpot (first-counted file) ∙ ap (asRead file) (sym came)))
 
 returns-2 : tie.Need-returns-2
 unfolding headerOf
-returns-2 c = sym (ap telling (rw (c .before .counts .given .1) at (c .before .before .before .read-header .ensures) .0))
+returns-2 c =
+    let file = now (c .before .before .before .before .before .args .file) in
+    let came = rw (c .before .counts .given .1) at (c .before .before .before .read-header .ensures) in
+    sym (ap telling (reads-as file (omega arith) header firstSpot (first-counted file) ∙ ap (asRead file) (sym came)))
 
 pub header-of-spec : {M : Type 1} → statement M
 header-of-spec =

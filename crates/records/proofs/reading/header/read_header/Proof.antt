@@ -9,13 +9,12 @@ use borrow.Author.Tests.{not-true, not-false}
 use borrow.Author.Needs.{needs}
 use Rattle.fields.specs.declared.reason.Reason.{Reason}
 use Rattle.fields.specs.Reasons.{numberOf}
-use Rattle.fields.specs.Readers.{refused}
 use Rattle.fields.specs.Spots.{firstSpot}
-use Rattle.fields.specs.Stages.{refusedBy}
+use Rattle.fields.specs.Reaching.{stopped, stoppedBy}
 use Rattle.fields.proofs.Takes.{value-there, fault-there}
-use Rattle.fields.proofs.OneRecord.{Numbers, none-taken, next-faulty, next-wrong, next-taken, all-taken, all-allowed}
+use Rattle.fields.proofs.OneRecord.{Numbers, none-taken, next-faulty, next-wrong, next-taken, all-taken}
 use Rattle.records.specs.Headers.{header, headerFields}
-use Rattle.records.proofs.HeaderFields.{headerReasons, header-reason, header-wants, header-made, header-fits}
+use Rattle.records.proofs.HeaderFields.{headerReasons, header-reason, header-wants, header-made}
 use Rattle.records.proofs.reading.header.read_header.Statement.{statement}
 use Rattle.records.proofs.reading.header.read_header.Tie as tie
 
@@ -43,8 +42,8 @@ returns c =
     let l = c .before .before .before .before .before .loop in
     let taken = c .before .before .before .take in
     let r = c .before .refusal .given in
-    next-faulty (l .inv) headerReasons header-wants refl (omega arith) (r .0 .0)
-    (fault-there file (l .at) (taken .result) (r .0 .0) (taken .ensures) (r .1))
+    sym (next-faulty (l .inv) headerReasons header-wants refl (omega arith) (r .0 .0)
+    (fault-there file (l .at) (taken .result) (r .0 .0) (taken .ensures) (r .1)))
 
 enum-known-value : tie.Need-enum-known-value Inv-loop μ-loop
 enum-known-value c = search needs
@@ -66,11 +65,12 @@ returns-2 c =
     let taken = t .before .before .before .before .before .take in
     let v = t .before .before .before .value .given in
     let sized : length (take (l .f) (l .values)) ≡ l .f = length-take-le (l .f) (l .values) (omega (arith, l .inv .sized)) in
-    next-wrong (l .inv) headerReasons header-wants refl (omega arith) (v .0 .0) (v .0 .1 .0)
+    ap stoppedBy (c .refusal2 .ensures)
+    ∙ sym
+    (next-wrong (l .inv) headerReasons header-wants refl (omega arith) (v .0 .0) (v .0 .1 .0)
     (value-there file (l .at) (taken .result) (v .0 .0) (v .0 .1 .0) (taken .ensures) (v .1))
     (sym (t .before .allows .ensures (take (l .f) (l .values)) sized) ∙ not-true (t .before .allows .result) (t .if1 .taken))
-    ∙ ap (λ (r : Reason). refused (numberOf r) (l .at .place)) (header-reason (l .f) (omega arith) ∙ sym (c .before .reason .ensures))
-    ∙ sym (ap refusedBy (c .refusal2 .ensures))
+    ∙ ap (λ (r : Reason). stopped (numberOf r) (l .at .place)) (header-reason (l .f) (omega arith) ∙ sym (c .before .reason .ensures)))
 
 mul-values : tie.Need-mul-values Inv-loop μ-loop
 mul-values c = search needs
@@ -93,7 +93,6 @@ loop-again c =
     let sized : length (take (l .f) (l .values)) ≡ l .f = length-take-le (l .f) (l .values) (omega (arith, l .inv .sized)) in
     next-taken (l .inv) headerReasons header-wants refl (omega arith) (v .0 .0) (v .0 .1 .0)
     (value-there file (l .at) (taken .result) (v .0 .0) (v .0 .1 .0) (taken .ensures) (v .1))
-    (omega arith)
     (sym (c .before .allows .ensures (take (l .f) (l .values)) sized) ∙ not-false (c .before .allows .result) (c .if1 .left))
 
 array-read-t20 : tie.Need-array-read-t20 Inv-loop μ-loop
@@ -107,11 +106,8 @@ array-read-t26 c = search needs
 
 returns-3 : tie.Need-returns-3 Inv-loop μ-loop
 returns-3 c =
-    let l = c .before .loop in (
-      all-taken (l .inv) _ (omega arith) (header-made (l .values) (l .inv .sized)),
-      header-fits (l .values) (l .inv .sized) (all-allowed (l .inv) (omega arith)),
-      omega (arith, l .inv .place-is, l .inv .within),
-    )
+    let l = c .before .loop in
+    sym (all-taken (l .inv) _ (omega arith) (header-made (l .values) (l .inv .sized)))
 
 pub read-header-spec : {M : Type 1} → statement M
 read-header-spec =

@@ -6,7 +6,7 @@ use denote.Ref.{now}
 use borrow.Author.Tests.{not-true, not-false}
 use borrow.Author.Needs.{needs}
 use Rattle.fields.specs.declared.reason.Reason.the-variants.{WrongLine}
-use Rattle.fields.specs.Stages.{readTo, refusedBy}
+use Rattle.fields.specs.Reaching.{whole, stoppedBy}
 use Rattle.fields.proofs.Takes.{value-there, fault-there}
 use Rattle.fields.proofs.OneRecord.{Numbers, none-taken, next-faulty, one-wrong, next-taken, all-taken, all-allowed}
 use Rattle.records.specs.declared.line.Line.{Line}
@@ -39,8 +39,8 @@ returns c =
     let l = c .before .before .before .before .before .loop in
     let taken = c .before .before .before .take in
     let r = c .before .refusal .given in
-    next-faulty (l .inv) (lineReasons (a .counts)) (line-wants (a .counts)) refl (omega arith) (r .0 .0)
-    (fault-there (now (a .file)) (l .at) (taken .result) (r .0 .0) (taken .ensures) (r .1))
+    sym (next-faulty (l .inv) (lineReasons (a .counts)) (line-wants (a .counts)) refl (omega arith) (r .0 .0)
+    (fault-there (now (a .file)) (l .at) (taken .result) (r .0 .0) (taken .ensures) (r .1)))
 
 enum-known-value : tie.Need-enum-known-value Inv-loop μ-loop
 enum-known-value c = search needs
@@ -58,10 +58,11 @@ returns-2 c =
     let l = t .before .before .before .before .before .before .before .loop in
     let taken = t .before .before .before .before .before .take in
     let v = t .before .before .before .value .given in
-    one-wrong (l .inv) WrongLine (line-wants (a .counts)) (omega arith) (v .0 .0) (v .0 .1 .0)
+    ap stoppedBy (c .refusal2 .ensures)
+    ∙ sym
+    (one-wrong (l .inv) WrongLine (line-wants (a .counts)) (omega arith) (v .0 .0) (v .0 .1 .0)
     (value-there (now (a .file)) (l .at) (taken .result) (v .0 .0) (v .0 .1 .0) (taken .ensures) (v .1))
-    (sym (t .before .allows .ensures) ∙ not-true (t .before .allows .result) (t .if1 .taken))
-    ∙ sym (ap refusedBy (c .refusal2 .ensures))
+    (sym (t .before .allows .ensures) ∙ not-true (t .before .allows .result) (t .if1 .taken)))
 
 mul-values : tie.Need-mul-values Inv-loop μ-loop
 mul-values c = search needs
@@ -84,7 +85,6 @@ loop-again c =
     let v = c .before .before .before .value .given in
     next-taken (l .inv) (lineReasons (a .counts)) (line-wants (a .counts)) refl (omega arith) (v .0 .0) (v .0 .1 .0)
     (value-there (now (a .file)) (l .at) (taken .result) (v .0 .0) (v .0 .1 .0) (taken .ensures) (v .1))
-    (s .pre .1)
     (sym (c .before .allows .ensures) ∙ not-false (c .before .allows .result) (c .if1 .left))
 
 array-read-new : tie.Need-array-read-new Inv-loop μ-loop
@@ -106,16 +106,14 @@ new-requires : tie.Need-new-requires Inv-loop μ-loop
 new-requires c κs =
     let s = c .before .before .before in
     let l = c .before .loop in
-    line-fits (s .args .counts) (l .values) (l .inv .sized) (all-allowed (l .inv) (omega arith)) (s .pre .0)
+    line-fits (s .args .counts) (l .values) (l .inv .sized) (all-allowed (l .inv) (omega arith))
 
 returns-3 : tie.Need-returns-3 Inv-loop μ-loop
 returns-3 c =
     let a = c .before .before .before .before .args in
     let l = c .before .before .loop in
-    let made = line-made (a .counts) (l .values) (l .inv .sized) in (
-      all-taken (l .inv) _ (omega arith) made ∙ ap (λ (x : Line). readTo (now (a .file)) x (l .at)) (sym (c .new .ensures)),
-      omega (arith, l .inv .place-is, l .inv .within),
-    )
+    let made = line-made (a .counts) (l .values) (l .inv .sized) in
+    ap (λ (x : Line). whole x (l .at)) (c .new .ensures) ∙ sym (all-taken (l .inv) _ (omega arith) made)
 
 pub read-line-spec : {M : Type 1} → statement M
 read-line-spec =

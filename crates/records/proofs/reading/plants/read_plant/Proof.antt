@@ -8,7 +8,7 @@ use denote.Ref.{now}
 use borrow.Author.Tests.{not-true, not-false}
 use borrow.Author.Needs.{needs}
 use Rattle.fields.specs.declared.reason.Reason.the-variants.{WrongPlant}
-use Rattle.fields.specs.Stages.{readTo, refusedBy}
+use Rattle.fields.specs.Reaching.{whole, stoppedBy}
 use Rattle.fields.proofs.Takes.{value-there, fault-there}
 use Rattle.fields.proofs.OneRecord.{Numbers, none-taken, next-faulty, one-wrong, next-taken, all-taken, all-allowed}
 use Rattle.records.specs.declared.plant.Plant.{Plant}
@@ -41,8 +41,8 @@ returns c =
     let l = c .before .before .before .before .before .loop in
     let taken = c .before .before .before .take in
     let r = c .before .refusal .given in
-    next-faulty (l .inv) (plantReasons (a .counts)) (plant-wants (a .counts)) refl (omega arith) (r .0 .0)
-    (fault-there (now (a .file)) (l .at) (taken .result) (r .0 .0) (taken .ensures) (r .1))
+    sym (next-faulty (l .inv) (plantReasons (a .counts)) (plant-wants (a .counts)) refl (omega arith) (r .0 .0)
+    (fault-there (now (a .file)) (l .at) (taken .result) (r .0 .0) (taken .ensures) (r .1)))
 
 enum-known-value : tie.Need-enum-known-value Inv-loop μ-loop
 enum-known-value c = search needs
@@ -61,10 +61,11 @@ returns-2 c =
     let taken = t .before .before .before .before .before .take in
     let v = t .before .before .before .value .given in
     let sized : length (take (l .f) (l .values)) ≡ l .f = length-take-le (l .f) (l .values) (omega (arith, l .inv .sized)) in
-    one-wrong (l .inv) WrongPlant (plant-wants (a .counts)) (omega arith) (v .0 .0) (v .0 .1 .0)
+    ap stoppedBy (c .refusal2 .ensures)
+    ∙ sym
+    (one-wrong (l .inv) WrongPlant (plant-wants (a .counts)) (omega arith) (v .0 .0) (v .0 .1 .0)
     (value-there (now (a .file)) (l .at) (taken .result) (v .0 .0) (v .0 .1 .0) (taken .ensures) (v .1))
-    (sym (t .before .allows .ensures (take (l .f) (l .values)) sized) ∙ not-true (t .before .allows .result) (t .if1 .taken))
-    ∙ sym (ap refusedBy (c .refusal2 .ensures))
+    (sym (t .before .allows .ensures (take (l .f) (l .values)) sized) ∙ not-true (t .before .allows .result) (t .if1 .taken)))
 
 mul-values : tie.Need-mul-values Inv-loop μ-loop
 mul-values c = search needs
@@ -88,7 +89,6 @@ loop-again c =
     let sized : length (take (l .f) (l .values)) ≡ l .f = length-take-le (l .f) (l .values) (omega (arith, l .inv .sized)) in
     next-taken (l .inv) (plantReasons (a .counts)) (plant-wants (a .counts)) refl (omega arith) (v .0 .0) (v .0 .1 .0)
     (value-there (now (a .file)) (l .at) (taken .result) (v .0 .0) (v .0 .1 .0) (taken .ensures) (v .1))
-    (s .pre .1)
     (sym (c .before .allows .ensures (take (l .f) (l .values)) sized) ∙ not-false (c .before .allows .result) (c .if1 .left))
 
 array-read-new : tie.Need-array-read-new Inv-loop μ-loop
@@ -104,16 +104,14 @@ new-requires : tie.Need-new-requires Inv-loop μ-loop
 new-requires c κs =
     let s = c .before .before .before in
     let l = c .before .loop in
-    plant-fits (s .args .counts) (l .values) (l .inv .sized) (all-allowed (l .inv) (omega arith)) (s .pre .0)
+    plant-fits (s .args .counts) (l .values) (l .inv .sized) (all-allowed (l .inv) (omega arith))
 
 returns-3 : tie.Need-returns-3 Inv-loop μ-loop
 returns-3 c =
     let a = c .before .before .before .before .args in
     let l = c .before .before .loop in
-    let made = plant-made (a .counts) (l .values) (l .inv .sized) in (
-      all-taken (l .inv) _ (omega arith) made ∙ ap (λ (x : Plant). readTo (now (a .file)) x (l .at)) (sym (c .new .ensures)),
-      omega (arith, l .inv .place-is, l .inv .within),
-    )
+    let made = plant-made (a .counts) (l .values) (l .inv .sized) in
+    ap (λ (x : Plant). whole x (l .at)) (c .new .ensures) ∙ sym (all-taken (l .inv) _ (omega arith) made)
 
 pub read-plant-spec : {M : Type 1} → statement M
 read-plant-spec =

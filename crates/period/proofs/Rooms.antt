@@ -1,0 +1,29 @@
+-- The room in the tables: what its tests come to.
+use Prim.Native.Nat.{ℕ, _*_, _≤_, _<_}
+use mathlib.Core.Path.{_≡_, refl}
+use borrow.Author.Tests.{lt-ltb, le-ltb}
+use Rattle.fields.specs.declared.reason.Reason.the-variants.{PlantTableShort, SegmentTableShort}
+use Rattle.fields.specs.Reasons.{numberOf}
+use Rattle.fields.specs.Answers.{accepts, refuses}
+use Rattle.fields.specs.Tests.{testedBy}
+use Rattle.accounts.specs.Order.{plantNumbers, segmentNumbers}
+use Rattle.period.specs.Written.{withTables}
+
+module _ (plants segments plantTable segmentTable : ℕ) where
+  -- 14: the plants' table is too short
+  pub plants-short : plantTable < plantNumbers * plants → withTables plants segments plantTable segmentTable accepts ≡ refuses (numberOf PlantTableShort) (plantNumbers * plants)
+  unfolding testedBy
+  plants-short short = rw (lt-ltb plantTable (plantNumbers * plants) short) refl
+
+  -- 15: the segments' table is
+  pub segments-short :
+      plantNumbers * plants ≤ plantTable → segmentTable < segmentNumbers * segments →
+      withTables plants segments plantTable segmentTable accepts ≡ refuses (numberOf SegmentTableShort) (segmentNumbers * segments)
+  unfolding testedBy
+  segments-short enough short = rw (le-ltb plantTable (plantNumbers * plants) enough, lt-ltb segmentTable (segmentNumbers * segments) short) refl
+
+  -- neither is
+  pub both-enough :
+      plantNumbers * plants ≤ plantTable → segmentNumbers * segments ≤ segmentTable → withTables plants segments plantTable segmentTable accepts ≡ accepts
+  unfolding testedBy
+  both-enough enough enough' = rw (le-ltb plantTable (plantNumbers * plants) enough, le-ltb segmentTable (segmentNumbers * segments) enough') refl

@@ -1,0 +1,202 @@
+-- The loop that adds up the lines as they are read, with one law for its start, each way through a turn, and its end.
+use Prim.Native.Nat.{ℕ, suc, _+_, _-_, _≤_, _<_, min}
+use mathlib.Core.Path.{_≡_, refl, sym, ap, subst, _∙_}
+use mathlib.Core.List.{List, [], _∷_, _++_, append-nil}
+use native.Mathlib.Decide.{decLe, ℕ-discrete}
+use native.Mathlib.Omega.{arith}
+use lib.ListN.{length, getD, set, replicate, length-append, length-set, length-replicate, drop-of-length-le}
+use lib.Seq.{take-all, getD-at, append-snoc}
+use borrow.Author.Tests.{le-ltb, ne-eqb}
+use Rattle.fields.specs.declared.answer.Answer.{Answer}
+use Rattle.fields.specs.declared.answer.Answer.the-variants.{Accepted, Refused}
+use Rattle.fields.specs.declared.answer.Refusal.{Refusal}
+use Rattle.fields.specs.declared.reason.Reason.the-variants.{TooManyGrams}
+use Rattle.fields.specs.declared.spot.Spot.{Spot}
+use Rattle.fields.specs.Reasons.{numberOf}
+use Rattle.fields.specs.Answers.{Verdict, accepts, refuses, refusing, said}
+use Rattle.fields.specs.Spots.{endAt}
+use Rattle.fields.specs.Reaching.{whole, readsFrom, stoppedBy}
+use Rattle.fields.specs.Tests.{testedBy}
+use Rattle.fields.proofs.Answers.{refused-not-accepted}
+use Rattle.fields.proofs.Stages.{Passed, none-passed, one-passed, one-refused, none-left}
+use Rattle.records.specs.declared.counts.Counts.{Counts}
+use Rattle.records.specs.declared.line.Line.{Line}
+use Rattle.records.specs.Plants.{mostPlants}
+use Rattle.records.specs.Segments.{mostSegments}
+use Rattle.records.specs.Classes.{plantOwner, segmentOwner}
+use Rattle.records.specs.Lines.{noLine}
+use Rattle.records.specs.Periods.{line, linesOf}
+use Rattle.records.specs.Within.{CountsWithin}
+use Rattle.accounts.specs.Emissions.{mostGrams, grams, ownedBy, gramsOf, inKg, emission}
+use Rattle.accounts.specs.Order.{lineTests}
+use Rattle.settling.specs.declared.emissions.Totals.{Totals}
+use Rattle.settling.specs.Inside.{Small, noTotals, gramsAt, overGrams, withLine, firstOver, FewGrams, Rounded, EmissionsOf, noEmissions, andThen, linesRuling, AddedUp}
+use Rattle.settling.proofs.Cells.{zeros, no-amount}
+use Rattle.settling.proofs.Totals.{owners, Owner, place-below, tenOf, Adding, Next, no-totals, grams-there, grams-elsewhere, adding-start, adding-on, adding-refused}
+
+-- ---- the loop: so many lines are read, and added up to the first whose owner's total passes the limit, whatever lines follow
+module _ (file : List ℕ) (start : Spot) (counts : Counts) where
+  pub record AddingUp (totals : List Totals) (over : ℕ) (at : Spot) (l : ℕ) : Type 0 where
+    pub done : List Line
+    pub read-so-far : Passed (λ (own : ℕ). line counts) file start (counts .lines) done at l
+    pub places : length totals ≡ owners
+    pub most : (o : ℕ) → gramsAt totals o ≤ overGrams
+    pub within-limit : over ≡ 0 → (later : List Line) → Adding (done ++ later) totals l
+    pub past-limit : 0 < over → (later : List Line) → tenOf (done ++ later) ≡ refuses (numberOf TooManyGrams) over
+
+  -- no line is read
+  pub none-added : AddingUp (replicate owners noTotals) 0 start 0
+  none-added = record {
+    done = [];
+    read-so-far = none-passed (λ (own : ℕ). line counts) file start (counts .lines);
+    places = refl;
+    most = λ o. rw (no-totals o) (omega arith);
+    within-limit = λ none later. adding-start later;
+    past-limit = λ some later. absurd (omega (arith, some));
+  }
+
+module _
+    {file : List ℕ} {start : Spot} {counts : Counts} {totals : List Totals} {over : ℕ} {at : Spot} {l : ℕ} (so-far : AddingUp file start counts totals over at l)
+    (more : l < counts .lines) (one : Line) (behind : Spot) (came : readsFrom (line counts) file at ≡ whole one behind)
+    (place : ℕ) (owner : Owner (one .«owner_kind») (one .owner) place) where
+  -- the totals of its owner, with this line
+  abbrev total : Totals
+  total = withLine (getD totals place noTotals) one
+
+  abbrev all : ℕ
+  all = gramsAt totals place + grams one
+
+  -- it stands behind those that are read
+  next-line : (later : List Line) → Next (so-far .done ++ (one ∷ later)) l one place
+  next-line later = record {
+    more = omega (arith, length-append (so-far .done) (one ∷ later), so-far .read-so-far .counted);
+    line-is = getD-at (so-far .done) one later noLine l (so-far .read-so-far .counted);
+    owner = owner;
+  }
+
+  -- lines behind it are lines behind those that are read
+  moved : (P : List Line → Type 0) → ((later : List Line) → P (so-far .done ++ (one ∷ later))) → (later : List Line) → P (so-far .done ++ (one ∷ []) ++ later)
+  moved P holds later = subst P (sym (append-snoc (so-far .done) one later)) (holds later)
+
+  -- no total is counted past one over the limit
+  still-most : (o : ℕ) → gramsAt (set totals place total) o ≤ overGrams
+  still-most o = by-place (ℕ-discrete o place)
+    where
+      by-place : Dec (o ≡ place) → gramsAt (set totals place total) o ≤ overGrams
+      by-place (yes p) = rw p (omega (arith, grams-there totals place total (so-far .places) (place-below owner)))
+      by-place (no p) = omega (arith, grams-elsewhere totals place o total p, so-far .most o)
+
+  -- one more is added
+  pub one-added : AddingUp file start counts (set totals place total) (firstOver over total (l + 1)) behind (l + 1)
+  one-added = by-over (ℕ-discrete over 0) (decLe all mostGrams)
+    where
+      -- what holds whatever the limit
+      with-limit :
+          (over' : ℕ) → firstOver over total (l + 1) ≡ over' →
+          (over' ≡ 0 → (later : List Line) → Adding (so-far .done ++ (one ∷ []) ++ later) (set totals place total) (l + 1)) →
+          (0 < over' → (later : List Line) → tenOf (so-far .done ++ (one ∷ []) ++ later) ≡ refuses (numberOf TooManyGrams) over') →
+          AddingUp file start counts (set totals place total) (firstOver over total (l + 1)) behind (l + 1)
+      with-limit over' is within past = rw is (record {
+        done = so-far .done ++ (one ∷ []);
+        read-so-far = one-passed (so-far .read-so-far) more one behind came;
+        places = length-set totals place total ∙ so-far .places;
+        most = still-most;
+        within-limit = within;
+        past-limit = past;
+      })
+
+      by-over : Dec (over ≡ 0) → Dec (all ≤ mostGrams) → AddingUp file start counts (set totals place total) (firstOver over total (l + 1)) behind (l + 1)
+      by-over (yes none) (yes few) =
+          let exact : min all overGrams ≡ all = omega (arith, few) in
+          with-limit 0 (rw (none, exact, le-ltb mostGrams all few) refl)
+          (λ is. moved (λ (lines : List Line). Adding lines (set totals place total) (l + 1)) (λ later.
+          rw exact (adding-on (so-far .within-limit none (one ∷ later)) (next-line later) few)))
+          (λ some. absurd (omega (arith, some)))
+      by-over (yes none) (no many) =
+          let capped : min all overGrams ≡ overGrams = omega (arith, many) in
+          with-limit (l + 1) (rw (none, capped) refl)
+          (λ is. absurd (omega (arith, is)))
+          (λ some. moved (λ (lines : List Line). tenOf lines ≡ refuses (numberOf TooManyGrams) (l + 1)) (λ later.
+          adding-refused (so-far .within-limit none (one ∷ later)) (next-line later) (omega (arith, many))))
+      by-over (no some) h =
+          with-limit over (rw (ne-eqb over 0 some) refl)
+          (λ is. absurd (some is))
+          (λ above. moved (λ (lines : List Line). tenOf lines ≡ refuses (numberOf TooManyGrams) over) (λ later. so-far .past-limit above (one ∷ later)))
+
+-- ---- what the lines come to
+-- nothing is emitted by lines that are refused
+no-small : (why : Refusal) → Small (zeros mostSegments)
+no-small why o = rw (no-amount mostSegments o) (omega arith)
+
+pub lines-out : {file : List ℕ} {start : Spot} {counts : Counts} (why : Refusal) → refusing why ≡ linesRuling file (readsFrom (linesOf counts) file start) → AddedUp file start counts (noEmissions why)
+lines-out why e = record {
+  verdict = e;
+  emitted = λ is. absurd (refused-not-accepted is);
+  small = record { plants = no-small why; segments = no-small why; sized = length-replicate {A = ℕ} mostSegments 0 };
+}
+
+-- a line is refused
+pub line-out :
+    {file : List ℕ} {start : Spot} {counts : Counts} {totals : List Totals} {over : ℕ} {at : Spot} {l : ℕ} → AddingUp file start counts totals over at l →
+    l < counts .lines → (why : Refusal) → readsFrom (line counts) file at ≡ stoppedBy why → AddedUp file start counts (noEmissions why)
+line-out {file} so-far more why e = lines-out why (sym (ap (linesRuling file) (one-refused (so-far .read-so-far) more why e)))
+
+-- no line is left
+module _
+    {file : List ℕ} {start : Spot} {counts : Counts} {totals : List Totals} {over : ℕ} {at : Spot} {l : ℕ} (so-far : AddingUp file start counts totals over at l)
+    (all : counts .lines ≤ l) (answer : Answer) (told : said answer ≡ endAt file at) where
+  abbrev done : List Line
+  done = so-far .done
+
+  all-came : readsFrom (linesOf counts) file start ≡ whole done at
+  all-came = none-left (so-far .read-so-far) all
+
+  -- nothing follows the lines that are read
+  done-all : done ++ [] ≡ done
+  done-all = append-nil done
+
+  -- bytes follow
+  pub end-out : (why : Refusal) → answer ≡ Refused why → AddedUp file start counts (noEmissions why)
+  end-out why is =
+      let here : refusing why ≡ endAt file at = sym (ap said is) ∙ told in
+      lines-out why (sym (ap (linesRuling file) all-came ∙ ap (λ (v : Verdict). andThen v (tenOf done)) (sym here)))
+
+  module _ (accepted : answer ≡ Accepted) where
+    ruled : linesRuling file (readsFrom (linesOf counts) file start) ≡ tenOf done
+    ruled =
+        let here : endAt file at ≡ accepts = sym told ∙ ap said accepted in
+        ap (linesRuling file) all-came ∙ ap (λ (v : Verdict). andThen v (tenOf done)) here
+
+    -- a line passed the limit
+    pub limit-out : 0 < over → AddedUp file start counts (noEmissions (record { reason = TooManyGrams; place = over }))
+    limit-out some = lines-out _ (sym (ruled ∙ ap tenOf (sym done-all) ∙ so-far .past-limit some []))
+
+    module _ (none : over ≡ 0) where
+      added : Adding done totals l
+      added = subst (λ (lines : List Line). Adding lines totals l) done-all (so-far .within-limit none [])
+
+      pub few-totals : FewGrams totals
+      few-totals = added .few
+
+      -- none did, and all totals are rounded
+      pub all-added :
+          (plantKg segmentKg : List ℕ) → CountsWithin counts → Rounded totals 0 (counts .plants) plantKg → Rounded totals mostPlants (counts .segments) segmentKg →
+          AddedUp file start counts (record { answer = answer; plants = plantKg; segments = segmentKg })
+      unfolding emission testedBy lineTests
+      all-added plantKg segmentKg within plants segments = record {
+        verdict = ap said accepted ∙ sym (ruled ∙ added .passed ∙ rw (drop-of-length-le done counted-le) refl);
+        emitted = λ is lines last e.
+            let same : done ≡ lines = cc (all-came) in
+            subst (λ (x : List Line). EmissionsOf counts x (record { answer = answer; plants = plantKg; segments = segmentKg })) same (record {
+              plants = λ p h. plants .each p h ∙ in-kg plantOwner (suc p) (0 + p) (omega (arith, within .most-plants));
+              segments = λ s h. segments .each s h ∙ in-kg segmentOwner (suc s) (mostPlants + s) (omega (arith, within .most-segments));
+              behind = segments .behind;
+            });
+        small = record { plants = plants .small; segments = segments .small; sized = segments .sized };
+      }
+        where
+          counted-le : length done ≤ l
+          counted-le = omega (arith, so-far .read-so-far .counted)
+
+          in-kg : (ownerKind owner place : ℕ) → Owner ownerKind owner place → inKg (gramsAt totals place) ≡ emission ownerKind owner done
+          in-kg ownerKind owner place o = ap inKg (added .total ownerKind owner place o ∙ ap (gramsOf (ownedBy ownerKind owner)) (take-all l done counted-le))

@@ -1,0 +1,57 @@
+-- `settling::settling::settle_from_lines` meets its contract: the lines are added up, and the segments are worked. Assumes nothing.
+use native.Mathlib.Omega.{arith}
+use denote.Ref.{now}
+use borrow.Author.Needs.{needs}
+use Rattle.fields.specs.Spots.{firstSpot}
+use Rattle.records.proofs.RecordsWithin.{header-within}
+use Rattle.settling.proofs.Answering.{lines-out, settle-fits, settled-whole}
+use Rattle.settling.proofs.settling.settle_from_lines.Statement.{statement}
+use Rattle.settling.proofs.settling.settle_from_lines.Tie as tie
+
+add-up-requires : tie.Need-add-up-requires
+add-up-requires c κs =
+    let before = c .before .pre .before in
+    header-within (now (c .before .args .file)) firstSpot (c .before .args .counts) (before .first) (before .header-read)
+
+enum-known-answer : tie.Need-enum-known-answer
+enum-known-answer c = search needs
+
+refused-requires : tie.Need-refused-requires
+refused-requires c κs = search needs
+
+returns : tie.Need-returns
+returns c =
+    let added = c .before .before .before .before in
+    let start = added .before .before in
+    let told = c .before .before .answer .given in
+    rw (c .refused .ensures)
+    (lines-out (now (start .args .file)) (omega arith) _ _ _ _ (start .pre) (added .add-up .result) (added .add-up .ensures) (told .0 .0) (told .1))
+
+enum-told : tie.Need-enum-told
+enum-told c = search needs
+
+settle-period-requires : tie.Need-settle-period-requires
+settle-period-requires c κs =
+    let added = c .before .before in
+    let start = added .before .before in
+    settle-fits (now (start .args .file)) (omega arith) _ _ _ _ (start .pre) (added .add-up .result) (added .add-up .ensures) (c .enum-told .given .1)
+
+returns-2 : tie.Need-returns-2
+returns-2 c =
+    let told = c .before in
+    let added = told .before .before in
+    let start = added .before .before in
+    settled-whole (now (start .args .file)) (omega arith) _ _ _ _ (start .pre) (added .add-up .result) (added .add-up .ensures) (told .enum-told .given .1)
+    _ (c .settle-period .ensures)
+
+pub settle-from-lines-spec : {M : Type 1} → statement M
+settle-from-lines-spec =
+    tie.close
+    (tie.spec
+    add-up-requires
+    enum-known-answer
+    refused-requires
+    returns
+    enum-told
+    settle-period-requires
+    returns-2)

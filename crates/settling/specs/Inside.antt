@@ -1,0 +1,219 @@
+-- What the private functions of the accounts promise to their callers. Nothing here is needed to read the promise of the call.
+use Prim.Native.Nat.{ℕ, zero, suc, _+_, _-_, _*_, _^_, _≤_, _<_, min}
+use mathlib.Core.Path.{_≡_}
+use mathlib.Core.Bool.{cond, _&&_}
+use mathlib.Core.List.{List, []}
+use lib.Dec.{ltb, eqb}
+use lib.ListN.{length, take, getD, replicate}
+use Rattle.number.specs.Groups.{largest}
+use Rattle.fields.specs.declared.answer.Answer.the-variants.{Accepted, Refused}
+use Rattle.fields.specs.declared.answer.Refusal.{Refusal}
+use Rattle.fields.specs.declared.spot.Spot.{Spot}
+use Rattle.fields.specs.Answers.{Verdict, accepts, refuses, said}
+use Rattle.fields.specs.Lists.{Each, filled}
+use Rattle.fields.specs.Spots.{endAt}
+use Rattle.fields.specs.Reaching.{Reach, whole, stopped, readsFrom}
+use Rattle.fields.specs.Tests.{testedBy, listed}
+use Rattle.records.specs.declared.counts.Counts.{Counts}
+use Rattle.records.specs.declared.line.Line.{Line}
+use Rattle.records.specs.declared.plant.Plant.{Plant}
+use Rattle.records.specs.declared.segment.Segment.{Segment}
+use Rattle.records.specs.Plants.{mostPlants}
+use Rattle.records.specs.Segments.{mostSegments}
+use Rattle.records.specs.Classes.{plantOwner, segmentOwner}
+use Rattle.records.specs.Periods.{Period, linesOf}
+use Rattle.records.specs.Within.{CountsWithin, PlantWithin, SegmentWithin}
+use Rattle.accounts.specs.Sums.{roundedUp}
+use Rattle.accounts.specs.Emissions.{mostGrams, grams, inKg, emission}
+use Rattle.accounts.specs.Order.{lineTests, segmentTests}
+use Rattle.accounts.specs.Quantified.{accountsOf}
+use Rattle.settling.specs.declared.account.PlantAccounts.{PlantAccounts}
+use Rattle.settling.specs.declared.account.SegmentAccounts.{SegmentAccounts}
+use Rattle.settling.specs.declared.emissions.Emissions.{Emissions}
+use Rattle.settling.specs.declared.emissions.Totals.{Totals}
+use Rattle.settling.specs.declared.flow.Due.{Due}
+use Rattle.settling.specs.declared.network.Passed.the-variants as Passed
+use Rattle.settling.specs.declared.network.Plants.{Plants}
+use Rattle.settling.specs.declared.network.Segments.{Segments}
+use Rattle.settling.specs.declared.settling.Settled.{Settled}
+use Rattle.settling.specs.Settled.{Settlement, settledOf, settledBy, Settles}
+use Rattle.settling.specs.Kept.{plantsBy, segmentBy, segmentsBy, PlantsFilled, SegmentsFilled}
+use Rattle.settling.specs.Books.{Sized}
+
+-- no number is over the largest
+abbrev pub Small : List ℕ → Type 0
+Small numbers = (i : ℕ) → getD numbers i 0 ≤ largest
+
+-- ---- the owners' totals in one array: the plants' places, and behind room for the most of them the segments'
+abbrev pub ownerPlace : (ownerKind owner : ℕ) → ℕ
+ownerPlace ownerKind owner = mostPlants * ownerKind + owner - 1
+
+-- of no line; and the grams of the owner at a place
+abbrev pub noTotals : Totals
+noTotals = record { grams = 0 }
+
+abbrev pub gramsAt : List Totals → ℕ → ℕ
+gramsAt totals o = getD totals o noTotals .grams
+
+-- grams are counted up to one more than the limit
+abbrev pub overGrams : ℕ
+overGrams = mostGrams + 1
+
+abbrev pub withLine : Totals → Line → Totals
+withLine totals line = record { grams = min (totals .grams + grams line) overGrams }
+
+-- the first line that passes the limit, and 0 while there is none
+abbrev pub firstOver : ℕ → Totals → ℕ → ℕ
+firstOver over total line = cond (eqb over 0 && ltb mostGrams (total .grams)) line over
+
+-- no total passes the limit
+abbrev pub FewGrams : List Totals → Type 0
+FewGrams totals = (o : ℕ) → gramsAt totals o ≤ mostGrams
+
+-- so many totals, of which the first has this place, in kg, and zeros behind them
+pub record Rounded (totals : List Totals) (first count : ℕ) (kg : List ℕ) : Type 0 where
+  pub sized : length kg ≡ mostSegments
+  pub each : (o : ℕ) → o < count → getD kg o 0 ≡ inKg (gramsAt totals (first + o))
+  pub behind : (o : ℕ) → count ≤ o → getD kg o 0 ≡ 0
+  pub small : Small kg
+
+-- ---- emissions
+-- no owner emits more than the largest number
+pub record SmallEmissions (emissions : Emissions) : Type 0 where
+  pub plants : Small (emissions .plants)
+  pub segments : Small (emissions .segments)
+  pub sized : length (emissions .segments) ≡ mostSegments
+
+-- every owner emits what the lines say, and nobody else anything
+pub record EmissionsOf (counts : Counts) (lines : List Line) (emissions : Emissions) : Type 0 where
+  pub plants : (p : ℕ) → p < counts .plants → getD (emissions .plants) p 0 ≡ emission plantOwner (suc p) lines
+  pub segments : (s : ℕ) → s < counts .segments → getD (emissions .segments) s 0 ≡ emission segmentOwner (suc s) lines
+  pub behind : (s : ℕ) → counts .segments ≤ s → getD (emissions .segments) s 0 ≡ 0
+
+-- what the lines are refused with
+abbrev pub noEmissions : Refusal → Emissions
+noEmissions why = record { answer = Refused why; plants = replicate mostSegments 0; segments = replicate mostSegments 0 }
+
+-- one verdict, and then another
+abbrev pub andThen : Verdict → Verdict → Verdict
+andThen (refuses number place) later = refuses number place
+andThen accepts later = later
+
+-- what is said of the lines that are read: first the end of the file, and then 10 over the lines
+abbrev pub linesRuling : List ℕ → Reach (List Line) → Verdict
+linesRuling file (whole lines last) = andThen (endAt file last) (testedBy refuses (lineTests lines 0 lines) accepts)
+linesRuling file (stopped number place) = refuses number place
+
+-- what adding them up comes to
+pub record AddedUp (file : List ℕ) (start : Spot) (counts : Counts) (r : Emissions) : Type 0 where
+  pub verdict : said (r .answer) ≡ linesRuling file (readsFrom (linesOf counts) file start)
+  pub emitted : r .answer ≡ Accepted → (lines : List Line) (last : Spot) → readsFrom (linesOf counts) file start ≡ whole lines last → EmissionsOf counts lines r
+  pub small : SmallEmissions r
+
+-- ---- what is charged, by the books
+-- what a plant can be charged for without passing the numbers of the machine
+abbrev pub Chargeable : (amounts inflows emissions : List ℕ) → (segments : ℕ) → Type 0
+Chargeable amounts inflows emissions segments =
+    (s : ℕ) → s < segments → (getD amounts s 0 ≤ getD inflows s 0) × (getD inflows s 0 ≤ largest) × (getD emissions s 0 ≤ largest)
+
+-- the charges of so many segments for a plant's amounts
+unfoldable pub chargesBy : (amounts inflows emissions : List ℕ) → (segments : ℕ) → ℕ
+chargesBy amounts inflows emissions zero = 0
+chargesBy amounts inflows emissions (suc s) =
+    chargesBy amounts inflows emissions s + roundedUp (getD amounts s 0 * getD emissions s 0) (getD inflows s 0)
+
+module _ (table : List (List ℕ)) (inflows : List ℕ) (emissions : Emissions) (counts : Counts) where
+  -- what is associated with a plant
+  abbrev pub associatedBy : ℕ → ℕ
+  associatedBy p = getD (emissions .plants) p 0 + chargesBy (getD table p []) inflows (emissions .segments) (counts .segments)
+
+  -- what this asks of the books
+  pub record AllChargeable : Type 0 where
+    pub counts-within : CountsWithin counts
+    pub sized : Sized table
+    pub inflows-sized : length inflows ≡ mostSegments
+    pub small : SmallEmissions emissions
+    pub each : (p : ℕ) → p < counts .plants → Chargeable (getD table p []) inflows (emissions .segments) (counts .segments)
+
+  -- and what is found, with zeros behind
+  abbrev pub Associated : List ℕ → Type 0
+  Associated found = found ≡ filled 0 mostPlants (listed associatedBy 0 (counts .plants))
+
+-- ---- the accounts, by the books
+-- the first so many numbers are small
+abbrev pub SmallUpTo : ℕ → List ℕ → Type 0
+SmallUpTo count numbers = (i : ℕ) → i < count → getD numbers i 0 < 2 ^ 32
+
+-- what the accounts of so many plants ask, and what they are
+pub record PlantsCounted (stored : List ℕ) (count : ℕ) : Type 0 where
+  pub most-plants : count ≤ mostPlants
+  pub sized : length stored ≡ mostPlants
+  pub small : SmallUpTo count stored
+
+pub record PlantColumnsBy (plants : Plants) (stored associated : List ℕ) (count : ℕ) (r : PlantAccounts) : Type 0 where
+  pub exported : r .exported ≡ plants .exported
+  pub fraction : r .fraction ≡ plants .fraction
+  pub stored-is : r .stored ≡ filled 0 mostPlants (take count stored)
+  pub associated-is : r .associated ≡ associated
+
+-- the same of segments
+pub record SegmentsCounted (inflows sets : List ℕ) (count : ℕ) : Type 0 where
+  pub most-segments : count ≤ mostSegments
+  pub inflows-sized : length inflows ≡ mostSegments
+  pub inflows-small : SmallUpTo count inflows
+  pub sets-sized : length sets ≡ mostSegments
+  pub sets-small : SmallUpTo count sets
+
+pub record SegmentColumnsBy (segments : Segments) (inflows emission sets : List ℕ) (count : ℕ) (r : SegmentAccounts) : Type 0 where
+  pub inflow-is : r .inflow ≡ filled 0 mostSegments (take count inflows)
+  pub outflow : r .outflow ≡ segments .outflow
+  pub emission-is : r .emission ≡ emission
+  pub plants-are : r .plants ≡ filled 0 mostSegments (take count sets)
+
+-- ---- a period settled, whatever its lines, as long as the owners emit what the lines say
+-- what settling asks of the plants and the segments, and of the emissions
+pub record Given (plants : Plants) (segments : Segments) (counts : Counts) (emissions : Emissions) : Type 0 where
+  pub counts-within : CountsWithin counts
+  pub each-plant : Each (PlantWithin counts) 1 (plantsBy plants (counts .plants))
+  pub each-segment : Each (SegmentWithin counts) 1 (segmentsBy segments (counts .segments))
+  pub plants-filled : PlantsFilled plants (counts .plants)
+  pub segments-filled : SegmentsFilled segments (counts .segments)
+  pub small : SmallEmissions emissions
+
+-- the segment at an index, when its turn comes
+abbrev pub dueBy : Segments → Emissions → ℕ → Due
+dueBy segments emissions s = record { index = s; segment = segmentBy segments s; emission = getD (emissions .segments) s 0 }
+
+-- the period of these records
+abbrev pub periodOf : List Plant → List Segment → List Line → Period
+periodOf plants segments lines = record { plants = plants; segments = segments; lines = lines }
+
+-- its settlement by the tests after those of the lines
+abbrev pub workedOff : Period → Settlement
+workedOff period = settledBy (segmentTests (accountsOf period)) (settledOf period)
+
+-- settling comes to that, for all such lines
+abbrev pub SettledBy : Plants → Segments → Counts → Emissions → Settled → Type 0
+SettledBy plants segments counts emissions r =
+    (lines : List Line) → EmissionsOf counts lines emissions →
+    Settles r (workedOff (periodOf (plantsBy plants (counts .plants)) (segmentsBy segments (counts .segments)) lines))
+
+-- ---- the code's answer to a refused file
+abbrev pub nothingKept : Refusal → Settled
+nothingKept why = record {
+  answer = Refused why;
+  «plant_count» = 0;
+  «segment_count» = 0;
+  plants = record {
+    exported = replicate mostPlants 0;
+    fraction = replicate mostPlants 0;
+    stored = replicate mostPlants 0;
+    associated = replicate mostPlants 0;
+  };
+  segments = record {
+    inflow = replicate mostSegments 0;
+    outflow = replicate mostSegments 0;
+    emission = replicate mostSegments 0;
+    plants = replicate mostSegments 0;
+  };
+}

@@ -1,0 +1,162 @@
+// What an owner emits: the grams of its lines, added up as they are read, and then rounded up to a kg.
+ghost use mathlib.Core.Path.{_≡_};
+ghost use Prim.Native.Nat.{_+_, _≤_};
+ghost use Rattle.records.specs.Plants.{mostPlants};
+ghost use Rattle.records.specs.Segments.{mostSegments};
+ghost use Rattle.records.specs.Within.{CountsWithin, LineWithin, mostCounts};
+ghost use Rattle.settling.specs.Inside.{AddedUp, FewGrams, firstOver, noEmissions, noTotals, overGrams, ownerPlace, Rounded, withLine};
+use crate::arithmetic::rounded_up;
+use fields::Answer;
+use fields::Reason;
+use fields::Refusal;
+use fields::Spot;
+use fields::nothing_after;
+use records::Counts;
+use records::Line;
+use records::Plant;
+use records::ReadLine;
+use records::Segment;
+use records::read_line;
+
+// What the lines of an owner come to so far.
+pub(crate) struct Totals {
+    // Its grams. Past the limit they are no longer counted.
+    pub(crate) grams: u64,
+}
+
+impl Totals {
+    // The most grams of one owner.
+    pub(crate) const MOST_GRAMS: u64 = 4_000_000_000_000;
+
+    // Of no line.
+    fn none() -> Totals
+        ensures { λ r. ⌜ r ≡ noTotals ⌝ }
+    {
+        Totals { grams: 0 }
+    }
+
+    // With one line more.
+    fn with(self, line: Line) -> Totals
+        requires { ⌜ self .grams ≤ overGrams ⌝ }
+        requires { ⌜ LineWithin mostCounts 1 line ⌝ }
+        ensures { λ r. ⌜ r ≡ withLine self line ⌝ }
+    {
+        let grams = self.grams + line.quantity as u64 * line.factor as u64;
+        if Totals::MOST_GRAMS < grams {
+            Totals {
+                grams: Totals::MOST_GRAMS + 1,
+            }
+        } else {
+            Totals { grams }
+        }
+    }
+}
+
+// What the owners emit: accepted where the lines are read to the end of the file and no total passes the
+// limit.
+pub(crate) struct Emissions {
+    pub(crate) answer: Answer,
+    // The kg of each plant and of each segment, by its index.
+    pub(crate) plants: [u64; Emissions::OWNERS],
+    pub(crate) segments: [u64; Emissions::OWNERS],
+}
+
+impl Emissions {
+    pub(crate) const GRAMS_IN_KG: u64 = 1000;
+    // The most owners of one kind.
+    pub(crate) const OWNERS: usize = Segment::MOST;
+    // The places for totals: those of the plants, and behind them those of the segments.
+    pub(crate) const PLACES: usize = Plant::MOST + Segment::MOST;
+}
+
+// Adds up the lines of a file, of which the first starts at a spot, owner by owner as they come. The first
+// line whose owner's total passes the limit is remembered: it is the answer where reading to the end of the
+// file refuses nothing.
+pub(crate) fn add_up(file: &[u8], start: Spot, counts: Counts) -> Emissions
+    requires { ⌜ CountsWithin counts ⌝ }
+    ensures { λ r. ⌜ AddedUp (now (file .entry)) start counts r ⌝ }
+{
+    let mut totals = [Totals::none(); Emissions::PLACES];
+    let mut over = 0;
+    let mut at = start;
+    let mut l = 0;
+    while l < counts.lines {
+        match read_line(file, at, counts) {
+            ReadLine::Refused(refusal) => return refused(refusal),
+            ReadLine::Whole(line, next) => {
+                let owner = place_of(line);
+                let so_far = totals[owner];
+                let total = so_far.with(line);
+                totals[owner] = total;
+                over = first_over(over, total, l + 1);
+                at = next;
+            }
+        }
+        l += 1;
+    }
+    let answer = nothing_after(file, at);
+    if let Answer::Refused(refusal) = answer {
+        return refused(refusal);
+    }
+    if over != 0 {
+        return refused(Refusal {
+            reason: Reason::TooManyGrams,
+            place: over,
+        });
+    }
+    Emissions {
+        answer,
+        plants: in_kg(totals, 0, counts.plants as usize),
+        segments: in_kg(totals, Plant::MOST, counts.segments as usize),
+    }
+}
+
+// Where the total of a line's owner stands.
+fn place_of(line: Line) -> usize
+    requires { ⌜ LineWithin mostCounts 1 line ⌝ }
+    ensures { λ r. ⌜ r ≡ ownerPlace (line .«owner_kind») (line .owner) ⌝ }
+{
+    Plant::MOST * line.owner_kind as usize + line.owner as usize - 1
+}
+
+// The first line whose owner's total passes the limit, and 0 while there is none: the one that was, or else
+// this one, with its owner's total.
+fn first_over(over: u64, total: Totals, line: u64) -> u64
+    ensures { λ r. ⌜ r ≡ firstOver over total line ⌝ }
+{
+    if total.grams <= Totals::MOST_GRAMS {
+        return over;
+    }
+    if over == 0 { line } else { over }
+}
+
+// The lines are refused.
+fn refused(refusal: Refusal) -> Emissions
+    ensures { λ r. ⌜ r ≡ noEmissions refusal ⌝ }
+{
+    Emissions {
+        answer: Answer::Refused(refusal),
+        plants: [0; Emissions::OWNERS],
+        segments: [0; Emissions::OWNERS],
+    }
+}
+
+// The totals of so many owners in kg, of whom the first has this place; zeros behind them.
+fn in_kg(
+    totals: [Totals; Emissions::PLACES],
+    first: usize,
+    count: usize,
+) -> [u64; Emissions::OWNERS]
+    requires { ⌜ FewGrams totals ⌝ }
+    requires { ⌜ first + count ≤ mostPlants + mostSegments ⌝ }
+    requires { ⌜ count ≤ mostSegments ⌝ }
+    ensures { λ r. ⌜ Rounded totals first count r ⌝ }
+{
+    let mut kg = [0u64; Emissions::OWNERS];
+    let mut o = 0;
+    while o < count {
+        kg[o] = rounded_up(totals[first + o].grams, Emissions::GRAMS_IN_KG);
+        o += 1;
+    }
+    kg
+}
