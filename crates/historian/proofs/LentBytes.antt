@@ -1,18 +1,15 @@
 -- The tables of the C caller, read as numbers, are left as the call below promises for tables of numbers. So the theorems about an accepting
 -- call's tables hold of the caller's bytes. The result and the place tell the first of 01's reasons that holds, and a refusal leaves the bytes
 -- as they were.
-use Prim.Native.Nat.{ℕ, zero, suc, _+_, _-_, _*_, _/_, _^_, _≤_, _<_}
+use Prim.Native.Nat.{ℕ, _<_}
 use mathlib.Core.Path.{_≡_, refl, sym, ap, ap₂, _∙_}
-use mathlib.Core.List.{List, [], _∷_, _++_, append-assoc, flatMap}
+use mathlib.Core.List.{List, flatMap}
 use mathlib.Core.Logic.{_↔_}
-use native.Mathlib.Nat.{pow-suc, div-lt-iff-lt-mul, div-mul-le-self, mod-add-div}
 use native.Mathlib.Omega.{arith}
-use lib.ListN.{length, drop, length-append, length-drop}
-use lib.Seq.{take-at, drop-at, drop-drop}
+use lib.ListN.{length}
 use Rattle.fields.specs.declared.answer.Answer.the-variants.{Accepted as AcceptedAnswer}
 use Rattle.fields.specs.Answers.{accepts, refusalNumber, refusalPlace}
 use Rattle.fields.specs.Tests.{Test, FirstFails, NoneFails}
-use Rattle.accounts.specs.RowsAndColumns.{entryBits, Entries}
 use Rattle.accounts.specs.Order.{Ruling, refusal, accepted}
 use Rattle.accounts.specs.Quantified.{rows, quantified}
 use Rattle.accounts.specs.AllTests.{allTests}
@@ -23,73 +20,9 @@ use Rattle.accounts.proofs.Order.{refused-exactly, accepted-is, accepted-exactl
 use Rattle.accounts.proofs.Numbered.{refusal-numbered}
 use Rattle.period.specs.declared.call.Quantified.{Quantified}
 use Rattle.period.specs.Written.{Lent, lent, rulingVerdict, plantEntries, segmentEntries, overwritten, HandsBack, QuantifyPromise, Left}
-use Rattle.historian.specs.Tables.{numberBytes, byteValues, wholeNumbers, bytesOf, eightBytes, valueOf, firstNumbers, tableNumbers, entryRuling, bytesOverwritten, Outcome, EntryPromise}
-use Rattle.historian.proofs.Bytes.{length-bytes, length-all}
-
--- ---- one number: what is written is read back
-value-of-bytes : (count number : ℕ) → number < byteValues ^ count → valueOf (bytesOf count number) ≡ number
-unfolding valueOf bytesOf
-value-of-bytes zero number small = omega (arith, small)
-value-of-bytes (suc count) number small =
-    let higher : number / byteValues < byteValues ^ count =
-    div-lt-iff-lt-mul {k = byteValues} (omega arith) .1 (rw (pow-suc byteValues count) at small) in
-    rw (value-of-bytes count (number / byteValues) higher) (mod-add-div number byteValues)
-
--- eight bytes are enough for a 64-bit number
-pub value-of-eight : (number : ℕ) → number < 2 ^ entryBits → valueOf (eightBytes number) ≡ number
-value-of-eight number small = value-of-bytes numberBytes number small
-
--- ---- a table
--- it has so many numbers
-first-length : (count : ℕ) (table : List ℕ) → length (firstNumbers count table) ≡ count
-unfolding firstNumbers
-first-length zero table = refl
-first-length (suc count) table = ap suc (first-length count (drop numberBytes table))
-
--- those that are written at its start come first, and then the numbers of what stands behind them
-numbers-in-front :
-    (numbers behind : List ℕ) (left count : ℕ) → Entries numbers → length numbers + left ≡ count →
-    firstNumbers count (flatMap eightBytes numbers ++ behind) ≡ numbers ++ firstNumbers left behind
-unfolding firstNumbers flatMap
-numbers-in-front [] behind left count fit is = let all : count ≡ left = omega (arith, is) in rw all
-numbers-in-front (number ∷ numbers) behind left zero fit is = absurd (omega (arith, is))
-numbers-in-front (number ∷ numbers) behind left (suc count) fit is =
-    let rest : List ℕ = flatMap eightBytes numbers ++ behind in
-    let eight = length-bytes numberBytes number in
-    rw (
-      append-assoc (eightBytes number) (flatMap eightBytes numbers) behind,
-      take-at (eightBytes number) rest numberBytes eight,
-      drop-at (eightBytes number) rest numberBytes eight,
-      value-of-eight number (fit 0),
-    )
-    (ap (λ (l : List ℕ). number ∷ l) (numbers-in-front numbers behind left count (λ i. fit (suc i)) (omega (arith, is))))
-
--- the numbers behind the first so many
-numbers-behind :
-    (n left count : ℕ) (table : List ℕ) → n + left ≡ count →
-    firstNumbers left (drop (numberBytes * n) table) ≡ drop n (firstNumbers count table)
-unfolding firstNumbers
-numbers-behind zero left count table is = let all : count ≡ left = omega (arith, is) in rw all
-numbers-behind (suc n) left zero table is = absurd (omega (arith, is))
-numbers-behind (suc n) left (suc count) table is =
-    let further : numberBytes * suc n ≡ numberBytes + numberBytes * n = omega arith in
-    rw (further, ← drop-drop (numberBytes * n) numberBytes table) (numbers-behind n left count (drop numberBytes table) (omega (arith, is)))
-
--- so numbers that are written over a table that has room for them are written over its numbers
-pub numbers-overwritten :
-    (numbers table : List ℕ) → Entries numbers → length numbers ≤ wholeNumbers table →
-    tableNumbers (bytesOverwritten numbers table) ≡ overwritten numbers (tableNumbers table)
-numbers-overwritten numbers table fit room =
-    let n : ℕ = length numbers in
-    let count : ℕ = wholeNumbers table in
-    let left : ℕ = count - n in
-    let behind : List ℕ = drop (numberBytes * n) table in
-    let same-length : length (bytesOverwritten numbers table) ≡ length table =
-    length-append (flatMap eightBytes numbers) behind
-    ∙ omega (arith, room, length-all numbers, length-drop (numberBytes * n) table, div-mul-le-self (length table) numberBytes) in
-    ap (λ (bytes : ℕ). firstNumbers (bytes / numberBytes) (bytesOverwritten numbers table)) same-length
-    ∙ numbers-in-front numbers behind left count fit (omega (arith, room))
-    ∙ ap (λ (rest : List ℕ). numbers ++ rest) (numbers-behind n left count table (omega (arith, room)))
+use Rattle.tables.specs.Bytes.{wholeNumbers, tableNumbers, bytesOverwritten}
+use Rattle.tables.proofs.ReadBack.{first-length, numbers-overwritten}
+use Rattle.historian.specs.Tables.{entryRuling, Outcome, EntryPromise}
 
 -- ---- a result other than 0 and a place tell the ruling
 refusal-told :

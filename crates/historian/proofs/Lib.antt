@@ -1,5 +1,3 @@
--- Numbers as bytes in a table.
-mod Bytes
 -- What the entry leaves in the tables.
 mod Tables
 -- What the answer to a sheet leaves.

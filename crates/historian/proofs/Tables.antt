@@ -1,21 +1,25 @@
 -- What the entry leaves in the historian's tables: nothing where the file is refused, else the bytes of its rows.
-use Prim.Native.Nat.{ℕ, _*_, _≤_}
+use Prim.Native.Nat.{ℕ}
 use mathlib.Core.Path.{_≡_, refl, sym, ap, _∙_}
-use mathlib.Core.List.{List, _++_, flatMap}
+use mathlib.Core.List.{List, flatMap}
 use native.Mathlib.Omega.{arith}
-use lib.ListN.{length, drop}
 use Rattle.fields.specs.declared.answer.Answer.{Answer}
 use Rattle.fields.specs.declared.answer.Answer.the-variants.{Accepted, Refused}
 use Rattle.fields.specs.declared.answer.Refusal.{Refusal}
 use Rattle.fields.specs.Reasons.{numberOf}
 use Rattle.fields.specs.Answers.{refusing, refusalNumber, refusalPlace, said}
 use Rattle.fields.proofs.Answers.{refuses-not-accepts}
+use Rattle.records.specs.Plants.{mostPlants}
+use Rattle.records.specs.Segments.{mostSegments}
 use Rattle.accounts.specs.Order.{Ruling, refusal, accepted, plantNumbers, segmentNumbers}
 use Rattle.settling.specs.declared.settling.Settled.{Settled}
 use Rattle.settling.specs.Settled.{SettlePromise}
+use Rattle.settling.proofs.HowMany.{few-settled}
 use Rattle.period.specs.Written.{firstRows, plantRowAt, segmentRowAt, withTables, rulingVerdict, plantEntries, segmentEntries}
-use Rattle.period.proofs.Answering.{answer-is, rows-are, room-is, plants-long, segments-long}
-use Rattle.historian.specs.Tables.{numberBytes, eightBytes, wholeNumbers, entryRuling, bytesOverwritten, EntryPromise}
+use Rattle.period.proofs.Answering.{answer-is, rows-are, room-is}
+use Rattle.tables.specs.Bytes.{wholeNumbers, bytesOverwritten}
+use Rattle.tables.specs.Rows.{rowsThere, WritePlantsPromise, WriteSegmentsPromise}
+use Rattle.historian.specs.Tables.{entryRuling, EntryPromise}
 
 module _
     (file plants segments : List ℕ) (r : Settled) (settles : SettlePromise file r) (answer : Answer)
@@ -49,35 +53,34 @@ module _
       by-ruling (accepted plant-numbers segment-numbers) e = absurd (refuses-not-accepts e)
 
   module _ (is : answer ≡ Accepted) where
-    -- acceptance has room for the rows
-    pub entry-room : (numberBytes * plantNumbers * r .«plant_count» ≤ length plants) × (numberBytes * segmentNumbers * r .«segment_count» ≤ length segments)
-    entry-room =
+    -- acceptance has room for the rows, so all of them are there
+    all-rows :
+        (rowsThere (r .«plant_count») mostPlants plantNumbers plants ≡ r .«plant_count»)
+        × (rowsThere (r .«segment_count») mostSegments segmentNumbers segments ≡ r .«segment_count»)
+    all-rows =
         let enough = room-is file r settles (wholeNumbers plants) (wholeNumbers segments) answer told is in
-        (omega (arith, enough .0), omega (arith, enough .1))
+        let few = few-settled file in (
+          omega (arith, enough .0, settles .plant-count, few .plants),
+          omega (arith, enough .1, settles .segment-count, few .segments),
+        )
 
     -- and writes them
     pub entry-accepts :
-        (plants' segments' : List ℕ) →
-        plants' ≡ flatMap eightBytes (firstRows (plantRowAt (r .plants)) (r .«plant_count»)) ++ drop (numberBytes * plantNumbers * r .«plant_count») plants →
-        segments'
-        ≡ flatMap eightBytes (firstRows (segmentRowAt (r .segments)) (r .«segment_count»)) ++ drop (numberBytes * segmentNumbers * r .«segment_count») segments →
+        (plants' segments' : List ℕ) → WritePlantsPromise (r .plants) (r .«plant_count») plants plants' →
+        WriteSegmentsPromise (r .segments) (r .«segment_count») segments segments' →
         EntryPromise file plants segments (record { result = 0; place = 0; plants = plants'; segments = segments' })
     entry-accepts plants' segments' plants-written segments-written =
         let rows = rows-are file r settles (wholeNumbers plants) (wholeNumbers segments) answer told is in
-        let long = plants-long (r .plants) (r .«plant_count») in
-        let long' = segments-long (r .segments) (r .«segment_count») in
-        let bytes : numberBytes * plantNumbers * r .«plant_count» ≡ numberBytes * length (firstRows (plantRowAt (r .plants)) (r .«plant_count»)) = omega (arith, long) in
-        let bytes' : numberBytes * segmentNumbers * r .«segment_count» ≡ numberBytes * length (firstRows (segmentRowAt (r .segments)) (r .«segment_count»)) = omega (arith, long') in
         let verdict = sym (ap said is) ∙ verdict-is in
         record {
           result = ap refusalNumber verdict;
           place = ap refusalPlace verdict;
           plants-after =
               plants-written
-              ∙ ap (λ (n : ℕ). flatMap eightBytes (firstRows (plantRowAt (r .plants)) (r .«plant_count»)) ++ drop n plants) bytes
+              ∙ ap (λ (n : ℕ). bytesOverwritten (firstRows (plantRowAt (r .plants)) n) plants) (all-rows .0)
               ∙ sym (ap (λ (a : Ruling). bytesOverwritten (plantEntries a) plants) rows);
           segments-after =
               segments-written
-              ∙ ap (λ (n : ℕ). flatMap eightBytes (firstRows (segmentRowAt (r .segments)) (r .«segment_count»)) ++ drop n segments) bytes'
+              ∙ ap (λ (n : ℕ). bytesOverwritten (firstRows (segmentRowAt (r .segments)) n) segments) (all-rows .1)
               ∙ sym (ap (λ (a : Ruling). bytesOverwritten (segmentEntries a) segments) rows);
         }

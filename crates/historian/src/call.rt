@@ -1,11 +1,11 @@
 // The entry that the historian calls from C, on bytes.
 ghost use Rattle.historian.specs.Tables.{EntryPromise};
-use crate::table::room;
-use crate::table::write_plants;
-use crate::table::write_segments;
 use fields::Answer;
 use period::answer_with_tables;
 use settling::settle;
+use tables::room;
+use tables::write_plants;
+use tables::write_segments;
 
 // Answers a file of any length and content, with tables of any lengths: the number of refusal and the
 // place, 0 and 0 where the file is accepted. A refusal leaves both tables as they were; acceptance

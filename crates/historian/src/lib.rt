@@ -4,7 +4,6 @@
 // numbers: here the answers go into them. What they hold afterwards is said by the definitions in specs/.
 pub mod call;
 pub mod sheet;
-mod table;
 
 pub use crate::call::steeplecuff_quantify;
 pub use crate::sheet::steeplecuff_days;

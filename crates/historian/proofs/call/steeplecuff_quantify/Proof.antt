@@ -4,10 +4,9 @@ use mathlib.Core.Path.{_≡_}
 use denote.Ref.{now}
 use borrow.Author.Needs.{needs}
 use Rattle.fields.specs.Answers.{said}
-use Rattle.settling.proofs.HowMany.{few-settled}
 use Rattle.period.specs.Written.{withTables}
-use Rattle.historian.specs.Tables.{wholeNumbers}
-use Rattle.historian.proofs.Tables.{entry-refuses, entry-room, entry-accepts}
+use Rattle.tables.specs.Bytes.{wholeNumbers}
+use Rattle.historian.proofs.Tables.{entry-refuses, entry-accepts}
 use Rattle.historian.proofs.call.steeplecuff_quantify.Statement.{statement}
 use Rattle.historian.proofs.call.steeplecuff_quantify.Tie as tie
 
@@ -60,27 +59,13 @@ cast-write-plants : tie.Need-cast-write-plants
 cast-write-plants c = search needs
 
 write-plants-requires : tie.Need-write-plants-requires
-write-plants-requires c κs =
-    let known = c .before .before in
-    let t = known .before .before in
-    let a = start t .args in
-    let s = settled t .settle in (
-      rw (s .ensures .plant-count) (few-settled (now (a .file)) .plants),
-      entry-room (now (a .file)) (now (a .plants)) (now (a .segments)) (s .result) (s .ensures) (t .answer-with-tables .result) (told t) (known .enum-told .given .1) .0,
-    )
+write-plants-requires c κs = search needs
 
 cast-write-segments : tie.Need-cast-write-segments
 cast-write-segments c = search needs
 
 write-segments-requires : tie.Need-write-segments-requires
-write-segments-requires c κs =
-    let known = c .before .before .before .before .before .before .before in
-    let t = known .before .before in
-    let a = start t .args in
-    let s = settled t .settle in (
-      rw (s .ensures .segment-count) (few-settled (now (a .file)) .segments),
-      entry-room (now (a .file)) (now (a .plants)) (now (a .segments)) (s .result) (s .ensures) (t .answer-with-tables .result) (told t) (known .enum-told .given .1) .1,
-    )
+write-segments-requires c κs = search needs
 
 same-length : tie.Need-same-length
 same-length c = search needs

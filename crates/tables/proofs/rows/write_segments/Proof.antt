@@ -1,28 +1,33 @@
--- `historian::table::write_segments` meets its contract: its loop writes rows of one length, the bytes of each row's numbers. Assumes nothing.
-use Prim.Native.Nat.{ℕ, _*_, _-_}
-use mathlib.Core.Path.{refl, ap, _∙_}
-use mathlib.Core.List.{flatMap}
+-- `tables::rows::write_segments` meets its contract: its loop writes the bytes of one row after another, as many rows as there are accounts and room
+-- for. Assumes nothing.
+use Prim.Native.Nat.{_-_}
+use mathlib.Core.Path.{_≡_, refl}
 use native.Mathlib.Omega.{arith}
+use denote.Ref.{now}
 use borrow.Author.Needs.{needs}
-use Rattle.fields.specs.Tests.{listed}
+use Rattle.records.specs.Segments.{mostSegments}
 use Rattle.accounts.specs.Order.{segmentNumbers}
-use Rattle.period.specs.Written.{firstRows, segmentRowAt}
-use Rattle.period.proofs.RowsWritten.{Writing, writing-start, writing-length, writing-room, writing-on, writing-end, rows-on}
-use Rattle.historian.specs.Tables.{numberBytes, eightBytes}
-use Rattle.historian.proofs.Bytes.{length-all, bytes-of-both}
-use Rattle.historian.proofs.table.write_segments.Statement.{statement}
-use Rattle.historian.proofs.table.write_segments.Tie as tie
+use Rattle.period.specs.Written.{segmentRowAt}
+use Rattle.period.proofs.RowsWritten.{writing-length, writing-room}
+use Rattle.tables.specs.Rows.{rowsThere}
+use Rattle.tables.proofs.RowsInBytes.{RowsInBytes, bytes-start, bytes-on, bytes-end}
+use Rattle.tables.proofs.rows.write_segments.Statement.{statement}
+use Rattle.tables.proofs.rows.write_segments.Tie as tie
 
 abbrev Inv-loop : tie.InvT-loop
-Inv-loop table₀ count accounts s₀ table s =
-    Writing (numberBytes * segmentNumbers) (λ (k : ℕ). flatMap eightBytes (firstRows (segmentRowAt accounts) k)) count table₀ table s
+Inv-loop table₀ count accounts rows s₀ table s = RowsInBytes segmentNumbers (segmentRowAt accounts) rows table₀ table s
 
 abbrev μ-loop : tie.MeasureT-loop
-μ-loop table₀ count accounts s₀ table s = count - s
+μ-loop table₀ count accounts rows s₀ table s = rows - s
+
+lesser-requires : tie.Need-lesser-requires Inv-loop μ-loop
+lesser-requires c κs = search needs
+
+lesser-requires-2 : tie.Need-lesser-requires-2 Inv-loop μ-loop
+lesser-requires-2 c κs = search needs
 
 loop-holds : tie.Need-loop-holds Inv-loop μ-loop
-unfolding flatMap listed
-loop-holds c = writing-start (numberBytes * segmentNumbers) _ _ _ (c .before .pre .1) refl
+loop-holds c = bytes-start segmentNumbers _ (c .lesser2 .result) (now (c .before .before .before .args .table)) (omega (arith, c .lesser2 .ensures, c .before .lesser .ensures))
 
 mul-segment-row : tie.Need-mul-segment-row Inv-loop μ-loop
 mul-segment-row c = omega arith
@@ -74,17 +79,18 @@ loop-again c =
     let written = c .before .before in
     let made = written .before .before .before in
     let turn = made .before .before .before .before .before in
-    let l = turn .before .loop in
-    let rows = segmentRowAt (turn .before .before .before .args .t2) in
-    writing-on (l .inv) (turn .loop-test .taken) (flatMap eightBytes (rows (l .s))) _ (length-all (rows (l .s)))
-    (ap (flatMap eightBytes) (rows-on rows (l .s)) ∙ bytes-of-both (firstRows rows (l .s)) (rows (l .s)))
-    (rw (made .segment-row .ensures) at (written .write-row .ensures))
+    bytes-on segmentNumbers _ (λ i. refl) (turn .before .loop .inv) (turn .loop-test .taken) _ (rw (made .segment-row .ensures) at (written .write-row .ensures))
 
 same-length : tie.Need-same-length Inv-loop μ-loop
 same-length c = writing-length (c .before .loop .inv)
 
 returns : tie.Need-returns Inv-loop μ-loop
-returns c = writing-end (c .before .loop .inv) (c .loop-test .left)
+returns c =
+    let begun = c .before .before in
+    let start = begun .before .before .before in
+    let all : begun .lesser2 .result ≡ rowsThere (start .args .count) mostSegments segmentNumbers (now (start .args .table)) =
+    omega (arith, begun .lesser2 .ensures, begun .before .lesser .ensures) in
+    bytes-end segmentNumbers _ (λ i. refl) (c .before .loop .inv) _ all (c .loop-test .left)
 
 pub write-segments-spec : {M : Type 1} → statement M
 write-segments-spec =
@@ -92,6 +98,8 @@ write-segments-spec =
     (tie.spec
     Inv-loop
     μ-loop
+    lesser-requires
+    lesser-requires-2
     loop-holds
     mul-segment-row
     element-copy-out-segment-row

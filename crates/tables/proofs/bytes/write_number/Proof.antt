@@ -1,21 +1,27 @@
--- `historian::table::write_number` meets its contract: its writes, one behind another, put the eight bytes at their place. Assumes nothing.
-use native.Mathlib.Numerals.{add-one, add-two, add-three, add-four, add-five, add-six, add-seven}
+-- `tables::bytes::write_number` meets its contract: its writes, one behind another, put the eight bytes at their place. Assumes nothing.
+use Prim.Native.Nat.{ℕ, _%_}
 use native.Mathlib.Omega.{arith}
 use lib.ListN.{length-set}
-use lib.Seq.{sets-eq}
+use mir.Syntax.{w8}
+use mir.Val.{Fits}
 use denote.Ref.{now}
-use Rattle.historian.specs.Tables.{bytesOf, eightBytes}
-use Rattle.historian.proofs.table.write_number.Statement.{statement}
-use Rattle.historian.proofs.table.write_number.Tie as tie
+use Rattle.tables.specs.Bytes.{byteValues}
+use Rattle.tables.proofs.NumbersInBytes.{eight-set}
+use Rattle.tables.proofs.bytes.write_number.Statement.{statement}
+use Rattle.tables.proofs.bytes.write_number.Tie as tie
+
+-- a remainder by the values of a byte is one
+a-byte : (number : ℕ) → Fits w8 (number % byteValues)
+a-byte number = omega arith
 
 cast-table : tie.Need-cast-table
-cast-table c = omega arith
+cast-table c = a-byte _
 
 slice-write-table : tie.Need-slice-write-table
 slice-write-table c = omega arith
 
 cast-table-2 : tie.Need-cast-table-2
-cast-table-2 c = omega arith
+cast-table-2 c = a-byte _
 
 add-table : tie.Need-add-table
 add-table c = omega arith
@@ -24,7 +30,7 @@ slice-write-table-2 : tie.Need-slice-write-table-2
 slice-write-table-2 c = simp length-set (omega arith)
 
 cast-table-3 : tie.Need-cast-table-3
-cast-table-3 c = omega arith
+cast-table-3 c = a-byte _
 
 add-table-2 : tie.Need-add-table-2
 add-table-2 c = omega arith
@@ -33,7 +39,7 @@ slice-write-table-3 : tie.Need-slice-write-table-3
 slice-write-table-3 c = simp length-set (omega arith)
 
 cast-table-4 : tie.Need-cast-table-4
-cast-table-4 c = omega arith
+cast-table-4 c = a-byte _
 
 add-table-3 : tie.Need-add-table-3
 add-table-3 c = omega arith
@@ -42,7 +48,7 @@ slice-write-table-4 : tie.Need-slice-write-table-4
 slice-write-table-4 c = simp length-set (omega arith)
 
 cast-table-5 : tie.Need-cast-table-5
-cast-table-5 c = omega arith
+cast-table-5 c = a-byte _
 
 add-table-4 : tie.Need-add-table-4
 add-table-4 c = omega arith
@@ -51,7 +57,7 @@ slice-write-table-5 : tie.Need-slice-write-table-5
 slice-write-table-5 c = simp length-set (omega arith)
 
 cast-table-6 : tie.Need-cast-table-6
-cast-table-6 c = omega arith
+cast-table-6 c = a-byte _
 
 add-table-5 : tie.Need-add-table-5
 add-table-5 c = omega arith
@@ -60,7 +66,7 @@ slice-write-table-6 : tie.Need-slice-write-table-6
 slice-write-table-6 c = simp length-set (omega arith)
 
 cast-table-7 : tie.Need-cast-table-7
-cast-table-7 c = omega arith
+cast-table-7 c = a-byte _
 
 add-table-6 : tie.Need-add-table-6
 add-table-6 c = omega arith
@@ -69,7 +75,7 @@ slice-write-table-7 : tie.Need-slice-write-table-7
 slice-write-table-7 c = simp length-set (omega arith)
 
 cast-table-8 : tie.Need-cast-table-8
-cast-table-8 c = omega arith
+cast-table-8 c = a-byte _
 
 add-table-7 : tie.Need-add-table-7
 add-table-7 c = omega arith
@@ -81,10 +87,7 @@ same-length : tie.Need-same-length
 same-length c = simp length-set
 
 returns : tie.Need-returns
-unfolding bytesOf
-returns c =
-    let a = c .args in
-    rw (add-one, add-two, add-three, add-four, add-five, add-six, add-seven) (sets-eq (eightBytes (a .number)) (now (a .table)) (a .at) (c .pre))
+returns c = eight-set (now (c .args .table)) (c .args .at) (c .args .number) (c .pre)
 
 pub write-number-spec : {M : Type 1} → statement M
 write-number-spec =

@@ -1,19 +1,34 @@
 -- Numbers as bytes in a table: how many there are, and one number more behind others.
-use Prim.Native.Nat.{ℕ, zero, suc, _+_, _*_, _/_, _≤_, _<_}
+use Prim.Native.Nat.{ℕ, zero, suc, _+_, _*_, _/_, _%_, _≤_, _<_}
 use mathlib.Core.Path.{_≡_, refl, sym, ap, _∙_}
 use mathlib.Core.List.{List, [], _∷_, _++_, append-assoc, append-nil, flatMap}
-use native.Mathlib.Numerals.{add-one}
+use native.Mathlib.Numerals.{add-one, add-two, add-three, add-four, add-five, add-six, add-seven}
 use native.Mathlib.Omega.{arith}
-use lib.ListN.{length, take, drop, getD, length-append, take-append-drop}
-use lib.Seq.{take-length, take-at, drop-at, drop-drop, length-take-le}
+use lib.ListN.{length, take, drop, set, getD, length-append, take-append-drop}
+use lib.Seq.{sets-eq, take-length, take-at, drop-at, drop-drop, length-take-le}
 use Rattle.period.proofs.RowsWritten.{flat-length, flat-on}
-use Rattle.historian.specs.Tables.{numberBytes, byteValues, bytesOf, eightBytes}
+use Rattle.tables.specs.Bytes.{numberBytes, byteValues, bytesOf, eightBytes}
 
 -- there are so many bytes
 pub length-bytes : (count number : ℕ) → length (bytesOf count number) ≡ count
 unfolding bytesOf
 length-bytes zero number = refl
 length-bytes (suc count) number = ap suc (length-bytes count (number / byteValues))
+
+-- the byte of a number at an index
+abbrev pub byteAt : (index number : ℕ) → ℕ
+byteAt zero number = number % byteValues
+byteAt (suc index) number = byteAt index (number / byteValues)
+
+-- set one by one, its eight bytes stand at their place
+pub eight-set :
+    (table : List ℕ) (at number : ℕ) → at + numberBytes ≤ length table →
+    let b : ℕ → ℕ = λ index. byteAt index number in
+    set (set (set (set (set (set (set (set table at (b 0)) (at + 1) (b 1)) (at + 2) (b 2)) (at + 3) (b 3)) (at + 4) (b 4)) (at + 5) (b 5)) (at + 6) (b 6)) (at + 7) (b 7)
+    ≡ take at table ++ eightBytes number ++ drop (at + numberBytes) table
+unfolding bytesOf
+eight-set table at number room =
+    rw (add-one, add-two, add-three, add-four, add-five, add-six, add-seven) (sets-eq (eightBytes number) table at room)
 
 -- ---- numbers, one behind another
 -- eight times as many bytes as numbers

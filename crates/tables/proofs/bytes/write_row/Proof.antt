@@ -1,10 +1,10 @@
--- `historian::table::write_row` meets its contract: so far n numbers of the row are written. Assumes nothing.
+-- `tables::bytes::write_row` meets its contract: so far n numbers of the row are written. Assumes nothing.
 use Prim.Native.Nat.{_-_}
 use native.Mathlib.Omega.{arith}
 use lib.ListN.{length}
-use Rattle.historian.proofs.Bytes.{RowWritten, row-start, row-room, row-on, row-end}
-use Rattle.historian.proofs.table.write_row.Statement.{statement}
-use Rattle.historian.proofs.table.write_row.Tie as tie
+use Rattle.tables.proofs.NumbersInBytes.{RowWritten, row-start, row-room, row-on, row-end}
+use Rattle.tables.proofs.bytes.write_row.Statement.{statement}
+use Rattle.tables.proofs.bytes.write_row.Tie as tie
 
 abbrev Inv-loop : tie.InvT-loop
 Inv-loop table₀ at row n₀ table n = RowWritten table₀ at row table n

@@ -1,0 +1,10 @@
+-- `tables::bytes::room` meets its contract: a division. Assumes nothing.
+use native.Mathlib.Omega.{arith}
+use Rattle.tables.proofs.bytes.room.Statement.{statement}
+use Rattle.tables.proofs.bytes.room.Tie as tie
+
+returns : tie.Need-returns
+returns c = omega arith
+
+pub room-spec : {M : Type 1} → statement M
+room-spec = tie.close (tie.spec returns)

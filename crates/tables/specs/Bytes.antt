@@ -1,0 +1,46 @@
+-- The tables of a C caller, which are bytes: eight to a number, the lowest in front, and only whole numbers count (01, "Numbers of refusal").
+use Prim.Native.Nat.{ℕ, zero, suc, _+_, _*_, _/_, _%_}
+use mathlib.Core.Path.{_≡_}
+use mathlib.Core.List.{List, [], _∷_, _++_, flatMap}
+use lib.ListN.{length, take, drop}
+
+-- The bytes of a number, and the values that a byte has.
+abbrev pub numberBytes : ℕ
+numberBytes = 8
+
+abbrev pub byteValues : ℕ
+byteValues = 256
+
+-- how many whole numbers a table has
+abbrev pub wholeNumbers : List ℕ → ℕ
+wholeNumbers table = length table / numberBytes
+
+-- so many bytes of a number, from its lowest on
+unfoldable pub bytesOf : (count number : ℕ) → List ℕ
+bytesOf zero number = []
+bytesOf (suc count) number = number % byteValues ∷ bytesOf count (number / byteValues)
+
+-- the bytes of one number
+abbrev pub eightBytes : ℕ → List ℕ
+eightBytes = bytesOf numberBytes
+
+-- Read back: the number that some bytes are of, least significant first.
+unfoldable pub valueOf : List ℕ → ℕ
+valueOf [] = 0
+valueOf (byte ∷ bytes) = byte + byteValues * valueOf bytes
+
+-- the numbers that a table's bytes hold: so many from its start on, and all that are whole
+unfoldable pub firstNumbers : ℕ → List ℕ → List ℕ
+firstNumbers zero table = []
+firstNumbers (suc count) table = valueOf (take numberBytes table) ∷ firstNumbers count (drop numberBytes table)
+
+abbrev pub tableNumbers : List ℕ → List ℕ
+tableNumbers table = firstNumbers (wholeNumbers table) table
+
+-- Numbers are written from the start of a table; what stands behind them stays, spare bytes too.
+abbrev pub bytesOverwritten : (numbers table : List ℕ) → List ℕ
+bytesOverwritten numbers table = flatMap eightBytes numbers ++ drop (numberBytes * length numbers) table
+
+-- The promise of the call that tells the room in a table of so many bytes.
+abbrev pub RoomPromise : (bytes r : ℕ) → Type 0
+RoomPromise bytes r = r ≡ bytes / numberBytes

@@ -1,0 +1,3 @@
+-- Numbers in bytes, and the rows that are written so.
+pub mod Bytes
+pub mod Rows

@@ -1,0 +1,62 @@
+// The rows of plants and of segments, from the start of a table on; later entries and spare bytes stay.
+ghost use mathlib.Core.Path.{_≡_};
+ghost use Prim.Native.Nat.{min};
+ghost use Rattle.tables.specs.Rows.{WritePlantsPromise, WriteSegmentsPromise};
+use crate::bytes::NUMBER_BYTES;
+use crate::bytes::write_row;
+use period::PLANT_NUMBERS;
+use period::SEGMENT_NUMBERS;
+use period::plant_row;
+use period::segment_row;
+use records::Plant;
+use records::Segment;
+use settling::PlantAccounts;
+use settling::SegmentAccounts;
+
+// The bytes of a row.
+const PLANT_BYTES: usize = NUMBER_BYTES * PLANT_NUMBERS;
+
+const SEGMENT_BYTES: usize = NUMBER_BYTES * SEGMENT_NUMBERS;
+
+// Writes the rows of so many plants, as far as there are accounts for them and room in the table.
+pub fn write_plants(table: &mut [u8], accounts: PlantAccounts, count: usize)
+    ensures { λ _. ⌜ WritePlantsPromise accounts count (now (table .entry)) (now (table .exit)) ⌝ }
+{
+    let rows = lesser(count, lesser(Plant::MOST, table.len() / PLANT_BYTES));
+    let mut p = 0;
+    while p < rows {
+        let row = plant_row(
+            accounts.exported[p],
+            accounts.fraction[p],
+            accounts.stored[p],
+            accounts.associated[p],
+        );
+        write_row(table, PLANT_BYTES * p, &row);
+        p += 1;
+    }
+}
+
+// Writes the rows of so many segments, likewise.
+pub fn write_segments(table: &mut [u8], accounts: SegmentAccounts, count: usize)
+    ensures { λ _. ⌜ WriteSegmentsPromise accounts count (now (table .entry)) (now (table .exit)) ⌝ }
+{
+    let rows = lesser(count, lesser(Segment::MOST, table.len() / SEGMENT_BYTES));
+    let mut s = 0;
+    while s < rows {
+        let row = segment_row(
+            accounts.inflow[s],
+            accounts.outflow[s],
+            accounts.emission[s],
+            accounts.plants[s],
+        );
+        write_row(table, SEGMENT_BYTES * s, &row);
+        s += 1;
+    }
+}
+
+// The lesser of two numbers.
+fn lesser(m: usize, n: usize) -> usize
+    ensures { λ r. ⌜ r ≡ min m n ⌝ }
+{
+    if m < n { m } else { n }
+}
