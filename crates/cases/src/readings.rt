@@ -7,20 +7,20 @@ use fields::Spot;
 use output::put_refusal;
 use output::put_spaced;
 use output::put_words;
+use reading::ReadHeader;
+use reading::ReadLine;
+use reading::ReadPlant;
+use reading::ReadSegment;
+use reading::read_header;
+use reading::read_line;
+use reading::read_plant;
+use reading::read_segment;
+use reading::verdict;
 use records::Counts;
 use records::Header;
 use records::Line;
 use records::Plant;
-use records::ReadHeader;
-use records::ReadLine;
-use records::ReadPlant;
-use records::ReadSegment;
 use records::Segment;
-use records::read_header;
-use records::read_line;
-use records::read_plant;
-use records::read_segment;
-use records::verdict;
 
 // How far a line is put: where its text ends so far, and where the next record starts in the file.
 struct Along {

@@ -19,7 +19,7 @@ use output::put_number;
 use output::put_refusal;
 use output::put_spaced;
 use output::put_words;
-use records::verdict;
+use reading::verdict;
 
 // Where a walk stops.
 enum Stop {

@@ -14,7 +14,7 @@ use number::Number;
 use output::print;
 use output::put_number;
 use output::put_spaced;
-use records::header_of;
+use reading::header_of;
 
 // Walks the file from its start, number by number, up to the first step that answers no number. Of a
 // file that is cut these are the first bytes. Lines wait in the room until there is less of it left

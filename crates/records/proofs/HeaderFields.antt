@@ -17,7 +17,7 @@ use Rattle.records.specs.Plants.{plantsAllowed}
 use Rattle.records.specs.Segments.{segmentsAllowed}
 use Rattle.records.specs.Lines.{linesAllowed}
 use Rattle.records.specs.Headers.{edition, announced, header, headerFields}
-use Rattle.records.specs.Inside.{headerReason}
+use Rattle.records.specs.FieldTests.{headerReason}
 
 abbrev pub headerReasons : List Reason
 headerReasons = WrongEdition ∷ WrongCount ∷ WrongCount ∷ WrongCount ∷ []

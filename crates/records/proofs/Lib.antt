@@ -2,8 +2,8 @@
 mod FieldRanges
 mod Table
 mod Classes
-mod HeaderFields
-mod RecordFields
+pub mod HeaderFields
+pub mod RecordFields
 -- What was read of a file from a spot on, by its limits; and a period by its parts.
 pub mod RecordsWithin
 pub mod Parts

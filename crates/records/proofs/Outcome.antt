@@ -1,80 +1,43 @@
 -- No two outcomes meet a promise of this crate.
-use mathlib.Core.Path.{_≡_, sym, ap, ap₂, _∙_}
-use mathlib.Core.Bool.{true≢false}
-use mathlib.Core.List.{List}
 use Prim.Native.Nat.{ℕ}
-use Rattle.fields.specs.declared.answer.Answer.{Answer}
-use Rattle.fields.specs.declared.spot.Spot.{Spot}
-use Rattle.fields.specs.Answers.{said}
-use Rattle.fields.specs.Spots.{firstSpot}
-use Rattle.fields.specs.Reaching.{readsFrom}
-use Rattle.fields.proofs.Outcome.{refusal-once, said-once}
+use mathlib.Core.Path.{_≡_, sym, _∙_}
+use mathlib.Core.Bool.{Bool}
+use mathlib.Core.List.{List}
+use lib.ListN.{length, replicate, length-replicate}
+use Rattle.fields.specs.declared.reason.Reason.{Reason}
+use Rattle.fields.specs.Readers.{Reader}
 use Rattle.records.specs.declared.counts.Counts.{Counts}
-use Rattle.records.specs.declared.header.Header.{Header}
 use Rattle.records.specs.declared.limits.Limits.{Limits}
-use Rattle.records.specs.declared.reading.header.ReadHeader.{ReadHeader}
-use Rattle.records.specs.declared.reading.header.ReadHeader.the-variants as ReadHeader
-use Rattle.records.specs.declared.reading.plants.ReadPlant.{ReadPlant}
-use Rattle.records.specs.declared.reading.plants.ReadPlant.the-variants as ReadPlant
-use Rattle.records.specs.declared.reading.segments.ReadSegment.{ReadSegment}
-use Rattle.records.specs.declared.reading.segments.ReadSegment.the-variants as ReadSegment
-use Rattle.records.specs.declared.reading.lines.ReadLine.{ReadLine}
-use Rattle.records.specs.declared.reading.lines.ReadLine.the-variants as ReadLine
-use Rattle.records.specs.Headers.{header, headerOf}
-use Rattle.records.specs.Periods.{plant, segment, line}
 use Rattle.records.specs.Limits.{limits}
-use Rattle.records.specs.Found.{headerFound, plantFound, segmentFound, lineFound, periodVerdict}
+use Rattle.records.specs.FieldTests.{Allows, HeaderAllows, PlantAllows, SegmentAllows, LineAllows, HeaderReason}
 
--- ---- what was found, of the header or where a record starts, determines the answer
-header-once : (a b : ReadHeader) → headerFound a ≡ headerFound b → a ≡ b
-header-once (ReadHeader.Whole one next) (ReadHeader.Whole other next') e = ap₂ ReadHeader.Whole (cc) (cc)
-header-once (ReadHeader.Whole one next) (ReadHeader.Refused b) e = absurd (true≢false (cc))
-header-once (ReadHeader.Refused a) (ReadHeader.Whole other next') e = absurd (true≢false (cc))
-header-once (ReadHeader.Refused a) (ReadHeader.Refused b) e = ap ReadHeader.Refused (refusal-once a b (cc) (cc))
+-- a test whatever numbers stand before the field: zeros, for one
+allows-once : {A : Type 0} (reader : Reader A) (field value : ℕ) (r s : Bool) → Allows reader field value r → Allows reader field value s → r ≡ s
+allows-once reader field value r s p q =
+    let before : List ℕ = replicate field 0 in
+    let sized : length before ≡ field = length-replicate field 0 in
+    p before sized ∙ sym (q before sized)
 
-plant-once : (a b : ReadPlant) → plantFound a ≡ plantFound b → a ≡ b
-plant-once (ReadPlant.Whole one next) (ReadPlant.Whole other next') e = ap₂ ReadPlant.Whole (cc) (cc)
-plant-once (ReadPlant.Whole one next) (ReadPlant.Refused b) e = absurd (true≢false (cc))
-plant-once (ReadPlant.Refused a) (ReadPlant.Whole other next') e = absurd (true≢false (cc))
-plant-once (ReadPlant.Refused a) (ReadPlant.Refused b) e = ap ReadPlant.Refused (refusal-once a b (cc) (cc))
+-- `Header::allows`, `Plant::allows`, `Segment::allows` and `Line::allows`: two answers of one field for one value are the same
+pub one-header-allows : (field value : ℕ) (r s : Bool) → HeaderAllows field value r → HeaderAllows field value s → r ≡ s
+one-header-allows = allows-once _
 
-segment-once : (a b : ReadSegment) → segmentFound a ≡ segmentFound b → a ≡ b
-segment-once (ReadSegment.Whole one next) (ReadSegment.Whole other next') e = ap₂ ReadSegment.Whole (cc) (cc)
-segment-once (ReadSegment.Whole one next) (ReadSegment.Refused b) e = absurd (true≢false (cc))
-segment-once (ReadSegment.Refused a) (ReadSegment.Whole other next') e = absurd (true≢false (cc))
-segment-once (ReadSegment.Refused a) (ReadSegment.Refused b) e = ap ReadSegment.Refused (refusal-once a b (cc) (cc))
+pub one-plant-allows : (counts : Counts) (field value : ℕ) (r s : Bool) → PlantAllows counts field value r → PlantAllows counts field value s → r ≡ s
+one-plant-allows counts = allows-once _
 
-line-once : (a b : ReadLine) → lineFound a ≡ lineFound b → a ≡ b
-line-once (ReadLine.Whole one next) (ReadLine.Whole other next') e = ap₂ ReadLine.Whole (cc) (cc)
-line-once (ReadLine.Whole one next) (ReadLine.Refused b) e = absurd (true≢false (cc))
-line-once (ReadLine.Refused a) (ReadLine.Whole other next') e = absurd (true≢false (cc))
-line-once (ReadLine.Refused a) (ReadLine.Refused b) e = ap ReadLine.Refused (refusal-once a b (cc) (cc))
+pub one-segment-allows :
+    (counts : Counts) (own : ℕ) (earlier : List ℕ) (field value : ℕ) (r s : Bool) → SegmentAllows counts own earlier field value r →
+    SegmentAllows counts own earlier field value s → r ≡ s
+one-segment-allows counts own earlier field value r s p q = p ∙ sym q
 
--- `read_header`: two answers that meet its promise, of one file, are the same
-pub one-header-read :
-    (file : List ℕ) (r s : ReadHeader) → headerFound r ≡ readsFrom header file firstSpot → headerFound s ≡ readsFrom header file firstSpot → r ≡ s
-one-header-read file r s p q = header-once r s (p ∙ sym q)
+pub one-line-allows :
+    (counts : Counts) (earlier : List ℕ) (field value : ℕ) (r s : Bool) → LineAllows counts earlier field value r →
+    LineAllows counts earlier field value s → r ≡ s
+one-line-allows counts earlier field value r s p q = p ∙ sym q
 
--- `read_plant`, `read_segment` and `read_line`: so are two of their answers, of one file at one spot and by one header's counts
-module _ (file : List ℕ) (start : Spot) (counts : Counts) where
-  pub one-plant : (r s : ReadPlant) → plantFound r ≡ readsFrom (plant counts) file start → plantFound s ≡ readsFrom (plant counts) file start → r ≡ s
-  one-plant r s p q = plant-once r s (p ∙ sym q)
-
-  pub one-segment :
-      (own : ℕ) (r s : ReadSegment) → segmentFound r ≡ readsFrom (segment counts own) file start →
-      segmentFound s ≡ readsFrom (segment counts own) file start → r ≡ s
-  one-segment own r s p q = segment-once r s (p ∙ sym q)
-
-  pub one-line : (r s : ReadLine) → lineFound r ≡ readsFrom (line counts) file start → lineFound s ≡ readsFrom (line counts) file start → r ≡ s
-  one-line r s p q = line-once r s (p ∙ sym q)
-
--- `verdict`: so are two of its answers, of one file
-pub one-verdict : (file : List ℕ) (r s : Answer) → said r ≡ periodVerdict file → said s ≡ periodVerdict file → r ≡ s
-one-verdict file r s p q = said-once r s (p ∙ sym q)
-
--- `header_of` and `Limits::new`: their promises give the result itself
-pub one-header : (file : List ℕ) (r s : Header) → r ≡ headerOf file → s ≡ headerOf file → r ≡ s
-one-header file r s p q = p ∙ sym q
+-- `Header::reason` and `Limits::new`: their promises give the result itself
+pub one-header-reason : (field : ℕ) (r s : Reason) → HeaderReason field r → HeaderReason field s → r ≡ s
+one-header-reason field r s p q = p ∙ sym q
 
 pub one-limits : (r s : Limits) → r ≡ limits → s ≡ limits → r ≡ s
 one-limits r s p q = p ∙ sym q

@@ -20,8 +20,7 @@ use Rattle.records.specs.declared.line.Line.{Line}
 use Rattle.records.specs.declared.plant.Plant.{Plant}
 use Rattle.records.specs.declared.segment.Segment.{Segment}
 use Rattle.records.specs.Headers.{header}
-use Rattle.records.specs.Periods.{Period, plantsOf, segmentsOf, linesOf, records, period, periodFile}
-use Rattle.records.specs.Found.{periodVerdict}
+use Rattle.records.specs.Periods.{Period, plantsOf, segmentsOf, linesOf, records, period, periodFile, periodVerdict}
 
 -- the period of these records
 abbrev pub periodOf : List Plant → List Segment → List Line → Period

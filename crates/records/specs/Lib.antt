@@ -11,7 +11,6 @@ pub mod Periods
 pub mod Numbers
 pub mod Within
 pub mod Held
--- the code's limits and findings in these terms
+-- the code's limits and tests in these terms
 pub mod Limits
-pub mod Found
-pub mod Inside
+pub mod FieldTests

@@ -4,7 +4,8 @@ use mathlib.Core.List.{List}
 use Rattle.fields.specs.declared.reason.Reason.the-variants.{WrongPlant, WrongSegment, WrongLine}
 use Rattle.fields.specs.Ranges.{anyAmount}
 use Rattle.fields.specs.Readers.{Reader, return, field, _>>=_, each, Read}
-use Rattle.fields.specs.Files.{fileRead}
+use Rattle.fields.specs.Answers.{Verdict}
+use Rattle.fields.specs.Files.{fileRead, readVerdict}
 use Rattle.records.specs.declared.counts.Counts.{Counts}
 use Rattle.records.specs.declared.plant.Plant.{Plant}
 use Rattle.records.specs.declared.segment.Segment.{Segment}
@@ -74,6 +75,10 @@ period = do
 -- The whole file.
 unfoldable pub periodFile : List ℕ → Read Period
 periodFile = fileRead period
+
+-- What reading says of it: accepted, or refused for one of 1 to 9.
+abbrev pub periodVerdict : List ℕ → Verdict
+periodVerdict file = readVerdict (periodFile file)
 
 -- The most numbers that a file has, and the most bytes: every count and every field at its largest. A number below 128 takes one byte, one
 -- below 128² takes two, and so on up to five.

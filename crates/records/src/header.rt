@@ -1,8 +1,5 @@
 // The header: edition, and how many plants, segments and lines follow.
-ghost use mathlib.Core.Path.{_≡_};
-ghost use Prim.Native.Nat.{_<_};
-ghost use Rattle.records.specs.Headers.{headerFields};
-ghost use Rattle.records.specs.Inside.{headerAllows, headerReason};
+ghost use Rattle.records.specs.FieldTests.{HeaderAllows, HeaderReason};
 use crate::counts::Counts;
 use crate::line::Line;
 use crate::plant::Plant;
@@ -26,8 +23,8 @@ impl Header {
     pub const BYTES: usize = 1 + 1 + 1 + 2;
 
     // Whether the field at an index allows a value, whatever stands before it.
-    pub(crate) fn allows(field: usize, value: u64) -> bool
-        ensures { λ r. ⌜ headerAllows field value r ⌝ }
+    pub fn allows(field: usize, value: u64) -> bool
+        ensures { λ r. ⌜ HeaderAllows field value r ⌝ }
     {
         match field {
             0 => value == Header::EDITION,
@@ -39,9 +36,8 @@ impl Header {
     }
 
     // Why a value is refused that the field does not allow.
-    pub(crate) fn reason(field: usize) -> Reason
-        requires { ⌜ field < headerFields ⌝ }
-        ensures { λ r. ⌜ r ≡ headerReason field ⌝ }
+    pub fn reason(field: usize) -> Reason
+        ensures { λ r. ⌜ HeaderReason field r ⌝ }
     {
         match field {
             0 => Reason::WrongEdition,

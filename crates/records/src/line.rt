@@ -1,19 +1,7 @@
 // Emission lines: an owner, a class, a quantity and the grams of CO2e that a unit of it stands for.
 ghost use mathlib.Core.Path.{_≡_};
-ghost use Prim.Native.Nat.{_≤_};
-ghost use lib.ListN.{length, take};
-ghost use Rattle.number.specs.Groups.{largest};
-ghost use Rattle.fields.specs.Readers.{allowsNext, onward};
-ghost use Rattle.records.specs.Periods.{line};
-ghost use Rattle.records.specs.Classes.{classes, segmentOwner};
-ghost use Rattle.records.specs.Lines.{
-  factorAllowed,
-  largestFactor,
-  lineOf,
-  linesAllowed,
-  ownerAllowed,
-  ownerKindAllowed,
-};
+ghost use Rattle.records.specs.Lines.{factorAllowed, linesAllowed, ownerAllowed, ownerKindAllowed};
+ghost use Rattle.records.specs.FieldTests.{LineAllows};
 use crate::class::Class;
 use crate::counts::Counts;
 use crate::plant::Plant;
@@ -47,13 +35,8 @@ impl Line {
     }
 
     // Whether the field at an index of a line's record allows a value, by the numbers before it.
-    pub(crate) fn allows(
-        field: usize,
-        value: u64,
-        earlier: [u64; Line::FIELDS],
-        counts: Counts,
-    ) -> bool
-        ensures { λ r. ⌜ r ≡ allowsNext (onward (line counts) (take field earlier)) value ⌝ }
+    pub fn allows(field: usize, value: u64, earlier: [u64; Line::FIELDS], counts: Counts) -> bool
+        ensures { λ r. ⌜ LineAllows counts earlier field value r ⌝ }
     {
         match field {
             0 => Line::owner_kind_allowed(value),
@@ -87,19 +70,5 @@ impl Line {
         ensures { λ r. ⌜ r ≡ factorAllowed factor ⌝ }
     {
         factor <= Line::LARGEST_FACTOR
-    }
-
-    // The line of fields that have passed their tests.
-    pub(crate) fn new(owner_kind: u64, owner: u64, class: u64, quantity: u64, factor: u64) -> Line
-        requires { ⌜ («owner_kind» ≤ segmentOwner) × (owner ≤ largest) × (class ≤ length classes) × (quantity ≤ largest) × (factor ≤ largestFactor) ⌝ }
-        ensures { λ r. ⌜ r ≡ lineOf «owner_kind» owner class quantity factor ⌝ }
-    {
-        Line {
-            owner_kind: owner_kind as u8,
-            owner: owner as u32,
-            class: class as u8,
-            quantity: quantity as u32,
-            factor: factor as u32,
-        }
     }
 }

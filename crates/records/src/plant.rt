@@ -1,9 +1,7 @@
 // Plants: what each exported, where its route starts, and how much of it is of the origin that counts.
 ghost use mathlib.Core.Path.{_≡_};
-ghost use Prim.Native.Nat.{_≤_};
-ghost use Rattle.number.specs.Groups.{largest};
-ghost use Rattle.records.specs.Plants.{firstAllowed, fractionAllowed, millionths, plantOf, plantsAllowed};
-ghost use Rattle.records.specs.Inside.{plantAllows};
+ghost use Rattle.records.specs.Plants.{firstAllowed, fractionAllowed, plantsAllowed};
+ghost use Rattle.records.specs.FieldTests.{PlantAllows};
 use crate::counts::Counts;
 
 pub struct Plant {
@@ -37,8 +35,8 @@ impl Plant {
     }
 
     // Whether the field at an index of a plant's record allows a value, whatever stands before it.
-    pub(crate) fn allows(field: usize, value: u64, counts: Counts) -> bool
-        ensures { λ r. ⌜ plantAllows counts field value r ⌝ }
+    pub fn allows(field: usize, value: u64, counts: Counts) -> bool
+        ensures { λ r. ⌜ PlantAllows counts field value r ⌝ }
     {
         match field {
             1 => Plant::first_allowed(value, counts),
@@ -59,17 +57,5 @@ impl Plant {
         ensures { λ r. ⌜ r ≡ fractionAllowed fraction ⌝ }
     {
         fraction <= Plant::LARGEST_FRACTION
-    }
-
-    // The plant of fields that have passed their tests.
-    pub(crate) fn new(exported: u64, first: u64, fraction: u64) -> Plant
-        requires { ⌜ (exported ≤ largest) × (first ≤ largest) × (fraction ≤ millionths) ⌝ }
-        ensures { λ r. ⌜ r ≡ plantOf exported first fraction ⌝ }
-    {
-        Plant {
-            exported: exported as u32,
-            first: first as u32,
-            fraction: fraction as u32,
-        }
     }
 }

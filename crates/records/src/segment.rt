@@ -1,17 +1,7 @@
 // Segments: of which kind each is, what left it by its meter, and where that goes.
 ghost use mathlib.Core.Path.{_≡_};
-ghost use Prim.Native.Nat.{_≤_};
-ghost use lib.ListN.{take};
-ghost use Rattle.number.specs.Groups.{largest};
-ghost use Rattle.fields.specs.Readers.{allowsNext, onward};
-ghost use Rattle.records.specs.Periods.{segment};
-ghost use Rattle.records.specs.Segments.{
-  kindAllowed,
-  nextAllowed,
-  segmentOf,
-  segmentsAllowed,
-  store,
-};
+ghost use Rattle.records.specs.Segments.{kindAllowed, nextAllowed, segmentsAllowed};
+ghost use Rattle.records.specs.FieldTests.{SegmentAllows};
 use crate::counts::Counts;
 
 pub struct Segment {
@@ -50,14 +40,14 @@ impl Segment {
 
     // Whether the field at an index allows a value, in the record of the segment with its own number, by
     // the numbers before it.
-    pub(crate) fn allows(
+    pub fn allows(
         field: usize,
         value: u64,
         earlier: [u64; Segment::FIELDS],
         own: u64,
         counts: Counts,
     ) -> bool
-        ensures { λ r. ⌜ r ≡ allowsNext (onward (segment counts own) (take field earlier)) value ⌝ }
+        ensures { λ r. ⌜ SegmentAllows counts own earlier field value r ⌝ }
     {
         match field {
             0 => Segment::kind_allowed(value),
@@ -86,18 +76,6 @@ impl Segment {
             }
             Segment::STORE => next == 0,
             _ => false,
-        }
-    }
-
-    // The segment of fields that have passed their tests.
-    pub(crate) fn new(kind: u64, outflow: u64, next: u64) -> Segment
-        requires { ⌜ (kind ≤ store) × (outflow ≤ largest) × (next ≤ largest) ⌝ }
-        ensures { λ r. ⌜ r ≡ segmentOf kind outflow next ⌝ }
-    {
-        Segment {
-            kind: kind as u8,
-            outflow: outflow as u32,
-            next: next as u32,
         }
     }
 }

@@ -11,12 +11,12 @@ use fields::Reason;
 use fields::Refusal;
 use fields::Spot;
 use fields::nothing_after;
+use reading::ReadLine;
+use reading::read_line;
 use records::Counts;
 use records::Line;
 use records::Plant;
-use records::ReadLine;
 use records::Segment;
-use records::read_line;
 
 // What the lines of an owner come to so far.
 pub(crate) struct Totals {

@@ -7,13 +7,13 @@ ghost use Rattle.records.specs.Within.{CountsWithin};
 ghost use Rattle.settling.specs.Kept.{plantColumns, PlantsKept, segmentColumns, SegmentsKept};
 use fields::Refusal;
 use fields::Spot;
+use reading::ReadPlant;
+use reading::ReadSegment;
+use reading::read_plant;
+use reading::read_segment;
 use records::Counts;
 use records::Plant;
-use records::ReadPlant;
-use records::ReadSegment;
 use records::Segment;
-use records::read_plant;
-use records::read_segment;
 
 // The fields of the plants, by their index, and zeros behind them.
 pub(crate) struct Plants {

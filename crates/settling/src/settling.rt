@@ -24,11 +24,11 @@ use crate::network::read_segments;
 use fields::Answer;
 use fields::Refusal;
 use fields::Spot;
+use reading::ReadHeader;
+use reading::read_header;
 use records::Counts;
 use records::Plant;
-use records::ReadHeader;
 use records::Segment;
-use records::read_header;
 
 // What a file comes to before any table is looked at: the answer, how many plants and segments there are,
 // and their accounts. A refused file has none.

@@ -7,7 +7,7 @@ use denote.Ref.{now}
 use borrow.Author.Needs.{needs}
 use Rattle.fields.specs.Reaching.{readsFrom, whole}
 use Rattle.records.specs.declared.line.Line.{Line}
-use Rattle.records.specs.Found.{lineFound}
+use Rattle.reading.specs.Found.{lineFound}
 use Rattle.records.specs.Periods.{line}
 use Rattle.records.specs.Within.{CountsWithin, LineWithin, mostCounts}
 use Rattle.settling.specs.declared.emissions.Totals.{Totals}

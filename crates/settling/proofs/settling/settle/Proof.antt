@@ -3,7 +3,7 @@ use mathlib.Core.Path.{sym, ap, _∙_}
 use native.Mathlib.Omega.{arith}
 use denote.Ref.{now}
 use borrow.Author.Needs.{needs}
-use Rattle.records.specs.Found.{headerFound}
+use Rattle.reading.specs.Found.{headerFound}
 use Rattle.settling.proofs.Answering.{header-out}
 use Rattle.settling.proofs.settling.settle.Statement.{statement}
 use Rattle.settling.proofs.settling.settle.Tie as tie

@@ -3,7 +3,7 @@ use Prim.Native.Nat.{ℕ, zero, suc}
 use mathlib.Core.Path.{_≡_, refl}
 use borrow.Author.Needs.{needs}
 use Rattle.fields.specs.declared.reason.Reason.the-variants.{WrongCount}
-use Rattle.records.specs.Inside.{headerReason}
+use Rattle.records.specs.FieldTests.{headerReason}
 use Rattle.records.proofs.header.Header.reason.Statement.{statement}
 use Rattle.records.proofs.header.Header.reason.Tie as tie
 

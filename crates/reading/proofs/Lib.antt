@@ -1,0 +1,2 @@
+-- No two outcomes meet a promise.
+pub mod Outcome

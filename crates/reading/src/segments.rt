@@ -1,0 +1,57 @@
+// The segments of a file, one record after another.
+ghost use mathlib.Core.Path.{_≡_};
+ghost use Prim.Native.Nat.{_≤_};
+ghost use Rattle.fields.specs.Reaching.{readsFrom};
+ghost use Rattle.number.specs.Groups.{largest};
+ghost use Rattle.records.specs.Segments.{segmentOf, store};
+ghost use Rattle.records.specs.Periods.{segment};
+ghost use Rattle.reading.specs.Found.{segmentFound};
+use fields::Reason;
+use fields::Refusal;
+use fields::Spot;
+use fields::Taken;
+use fields::take;
+use records::Counts;
+use records::Segment;
+
+// One segment's record, and where the next record starts; or why the file is refused.
+pub enum ReadSegment {
+    Whole(Segment, Spot),
+    Refused(Refusal),
+}
+
+// Reads the record of the segment with its own number, which starts at a spot: each number is tested
+// before the next one is taken.
+pub fn read_segment(file: &[u8], start: Spot, own: u64, counts: Counts) -> ReadSegment
+    ensures { λ r. ⌜ segmentFound r ≡ readsFrom (segment counts own) (now (file .entry)) start ⌝ }
+{
+    let mut values = [0u64; Segment::FIELDS];
+    let mut at = start;
+    let mut f = 0;
+    while f < Segment::FIELDS {
+        match take(file, at) {
+            Taken::Refused(refusal) => return ReadSegment::Refused(refusal),
+            Taken::Value(value, next) => {
+                if !Segment::allows(f, value, values, own, counts) {
+                    return ReadSegment::Refused(at.refusal(Reason::WrongSegment));
+                }
+                values[f] = value;
+                at = next;
+            }
+        }
+        f += 1;
+    }
+    ReadSegment::Whole(segment_of(values[0], values[1], values[2]), at)
+}
+
+// The segment of fields that have passed their tests.
+fn segment_of(kind: u64, outflow: u64, next: u64) -> Segment
+    requires { ⌜ (kind ≤ store) × (outflow ≤ largest) × (next ≤ largest) ⌝ }
+    ensures { λ r. ⌜ r ≡ segmentOf kind outflow next ⌝ }
+{
+    Segment {
+        kind: kind as u8,
+        outflow: outflow as u32,
+        next: next as u32,
+    }
+}

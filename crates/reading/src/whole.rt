@@ -1,0 +1,98 @@
+// What reading says of a file, where no record of it is wanted.
+ghost use mathlib.Core.Path.{_≡_};
+ghost use Rattle.fields.specs.Answers.{said};
+ghost use Rattle.fields.specs.Reaching.{readsFrom};
+ghost use Rattle.records.specs.Periods.{linesOf, periodVerdict, plantsOf, segmentsOf};
+ghost use Rattle.reading.specs.Inside.{PassedOver};
+use crate::header::ReadHeader;
+use crate::header::read_header;
+use crate::lines::ReadLine;
+use crate::lines::read_line;
+use crate::plants::ReadPlant;
+use crate::plants::read_plant;
+use crate::segments::ReadSegment;
+use crate::segments::read_segment;
+use fields::Answer;
+use fields::Refusal;
+use fields::Spot;
+use fields::nothing_after;
+use records::Counts;
+
+// All records of a kind are read, up to a spot; or one of them is refused.
+enum Passing {
+    To(Spot),
+    Refused(Refusal),
+}
+
+// Whether a file of any length and any content is read to its end, or why it is refused (1 to 9).
+pub fn verdict(file: &[u8]) -> Answer
+    ensures { λ r. ⌜ said r ≡ periodVerdict (now (file .entry)) ⌝ }
+{
+    match read_header(file) {
+        ReadHeader::Refused(refusal) => Answer::Refused(refusal),
+        ReadHeader::Whole(counts, first_plant) => match pass_plants(file, first_plant, counts) {
+            Passing::Refused(refusal) => Answer::Refused(refusal),
+            Passing::To(first_segment) => match pass_segments(file, first_segment, counts) {
+                Passing::Refused(refusal) => Answer::Refused(refusal),
+                Passing::To(first_line) => match pass_lines(file, first_line, counts) {
+                    Passing::Refused(refusal) => Answer::Refused(refusal),
+                    Passing::To(end) => nothing_after(file, end),
+                },
+            },
+        },
+    }
+}
+
+// Reads as many plants as the header announced, of which the first starts at a spot, and keeps none.
+fn pass_plants(file: &[u8], start: Spot, counts: Counts) -> Passing
+    ensures { λ r. ⌜ PassedOver r (readsFrom (plantsOf counts) (now (file .entry)) start) ⌝ }
+{
+    let mut at = start;
+    let mut p = 0;
+    while p < counts.plants {
+        match read_plant(file, at, counts) {
+            ReadPlant::Refused(refusal) => return Passing::Refused(refusal),
+            ReadPlant::Whole(_plant, next) => {
+                at = next;
+            }
+        }
+        p += 1;
+    }
+    Passing::To(at)
+}
+
+// The same of the segments, each of which is tested by its own number.
+fn pass_segments(file: &[u8], start: Spot, counts: Counts) -> Passing
+    ensures { λ r. ⌜ PassedOver r (readsFrom (segmentsOf counts) (now (file .entry)) start) ⌝ }
+{
+    let mut at = start;
+    let mut s = 0;
+    while s < counts.segments {
+        match read_segment(file, at, s + 1, counts) {
+            ReadSegment::Refused(refusal) => return Passing::Refused(refusal),
+            ReadSegment::Whole(_segment, next) => {
+                at = next;
+            }
+        }
+        s += 1;
+    }
+    Passing::To(at)
+}
+
+// The same of the lines.
+fn pass_lines(file: &[u8], start: Spot, counts: Counts) -> Passing
+    ensures { λ r. ⌜ PassedOver r (readsFrom (linesOf counts) (now (file .entry)) start) ⌝ }
+{
+    let mut at = start;
+    let mut l = 0;
+    while l < counts.lines {
+        match read_line(file, at, counts) {
+            ReadLine::Refused(refusal) => return Passing::Refused(refusal),
+            ReadLine::Whole(_line, next) => {
+                at = next;
+            }
+        }
+        l += 1;
+    }
+    Passing::To(at)
+}
