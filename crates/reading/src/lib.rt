@@ -18,4 +18,5 @@ pub use crate::plants::ReadPlant;
 pub use crate::plants::read_plant;
 pub use crate::segments::ReadSegment;
 pub use crate::segments::read_segment;
+pub use crate::whole::ReadRecords;
 pub use crate::whole::verdict;

@@ -18,9 +18,10 @@ use fields::Spot;
 use fields::nothing_after;
 use records::Counts;
 
-// All records of a kind are read, up to a spot; or one of them is refused.
-enum Passing {
-    To(Spot),
+// All records of a kind, as many as the header announced, and where the next one starts; or why the file is
+// refused.
+pub enum ReadRecords {
+    Whole(Spot),
     Refused(Refusal),
 }
 
@@ -31,12 +32,12 @@ pub fn verdict(file: &[u8]) -> Answer
     match read_header(file) {
         ReadHeader::Refused(refusal) => Answer::Refused(refusal),
         ReadHeader::Whole(counts, first_plant) => match pass_plants(file, first_plant, counts) {
-            Passing::Refused(refusal) => Answer::Refused(refusal),
-            Passing::To(first_segment) => match pass_segments(file, first_segment, counts) {
-                Passing::Refused(refusal) => Answer::Refused(refusal),
-                Passing::To(first_line) => match pass_lines(file, first_line, counts) {
-                    Passing::Refused(refusal) => Answer::Refused(refusal),
-                    Passing::To(end) => nothing_after(file, end),
+            ReadRecords::Refused(refusal) => Answer::Refused(refusal),
+            ReadRecords::Whole(first_segment) => match pass_segments(file, first_segment, counts) {
+                ReadRecords::Refused(refusal) => Answer::Refused(refusal),
+                ReadRecords::Whole(first_line) => match pass_lines(file, first_line, counts) {
+                    ReadRecords::Refused(refusal) => Answer::Refused(refusal),
+                    ReadRecords::Whole(end) => nothing_after(file, end),
                 },
             },
         },
@@ -44,55 +45,55 @@ pub fn verdict(file: &[u8]) -> Answer
 }
 
 // Reads as many plants as the header announced, of which the first starts at a spot, and keeps none.
-fn pass_plants(file: &[u8], start: Spot, counts: Counts) -> Passing
+fn pass_plants(file: &[u8], start: Spot, counts: Counts) -> ReadRecords
     ensures { λ r. ⌜ PassedOver r (readsFrom (plantsOf counts) (now (file .entry)) start) ⌝ }
 {
     let mut at = start;
     let mut p = 0;
     while p < counts.plants {
         match read_plant(file, at, counts) {
-            ReadPlant::Refused(refusal) => return Passing::Refused(refusal),
+            ReadPlant::Refused(refusal) => return ReadRecords::Refused(refusal),
             ReadPlant::Whole(_plant, next) => {
                 at = next;
             }
         }
         p += 1;
     }
-    Passing::To(at)
+    ReadRecords::Whole(at)
 }
 
 // The same of the segments, each of which is tested by its own number.
-fn pass_segments(file: &[u8], start: Spot, counts: Counts) -> Passing
+fn pass_segments(file: &[u8], start: Spot, counts: Counts) -> ReadRecords
     ensures { λ r. ⌜ PassedOver r (readsFrom (segmentsOf counts) (now (file .entry)) start) ⌝ }
 {
     let mut at = start;
     let mut s = 0;
     while s < counts.segments {
         match read_segment(file, at, s + 1, counts) {
-            ReadSegment::Refused(refusal) => return Passing::Refused(refusal),
+            ReadSegment::Refused(refusal) => return ReadRecords::Refused(refusal),
             ReadSegment::Whole(_segment, next) => {
                 at = next;
             }
         }
         s += 1;
     }
-    Passing::To(at)
+    ReadRecords::Whole(at)
 }
 
 // The same of the lines.
-fn pass_lines(file: &[u8], start: Spot, counts: Counts) -> Passing
+fn pass_lines(file: &[u8], start: Spot, counts: Counts) -> ReadRecords
     ensures { λ r. ⌜ PassedOver r (readsFrom (linesOf counts) (now (file .entry)) start) ⌝ }
 {
     let mut at = start;
     let mut l = 0;
     while l < counts.lines {
         match read_line(file, at, counts) {
-            ReadLine::Refused(refusal) => return Passing::Refused(refusal),
+            ReadLine::Refused(refusal) => return ReadRecords::Refused(refusal),
             ReadLine::Whole(_line, next) => {
                 at = next;
             }
         }
         l += 1;
     }
-    Passing::To(at)
+    ReadRecords::Whole(at)
 }

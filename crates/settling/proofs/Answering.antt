@@ -29,8 +29,8 @@ use Rattle.records.proofs.RecordsWithin.{header-within, plants-within, segments
 use Rattle.accounts.specs.Order.{lineTests, segmentTests}
 use Rattle.accounts.specs.Quantified.{accountsOf}
 use Rattle.settling.specs.declared.emissions.Emissions.{Emissions}
-use Rattle.settling.specs.declared.network.Passed.{Passed}
-use Rattle.settling.specs.declared.network.Passed.the-variants as Passed
+use Rattle.reading.specs.declared.whole.ReadRecords.{ReadRecords}
+use Rattle.reading.specs.declared.whole.ReadRecords.the-variants as ReadRecords
 use Rattle.settling.specs.declared.network.Plants.{Plants}
 use Rattle.settling.specs.declared.network.Segments.{Segments}
 use Rattle.settling.specs.declared.settling.Settled.{Settled}
@@ -69,27 +69,27 @@ module _ (file : List ℕ) where
     header-out why e = read-refused why (header-stopped file long _ _ e)
 
     -- its header is read, and then its plants: one is refused, or all are read
-    module _ (counts : Counts) (first : Spot) (header-read : readsFrom header file firstSpot ≡ whole counts first) (passed : Passed) (plants : Plants) (kept : PlantsKept file first counts passed plants) where
-      pub plants-out : (why : Refusal) → passed ≡ Passed.Refused why → SettlePromise file (nothingKept why)
+    module _ (counts : Counts) (first : Spot) (header-read : readsFrom header file firstSpot ≡ whole counts first) (passed : ReadRecords) (plants : Plants) (kept : PlantsKept file first counts passed plants) where
+      pub plants-out : (why : Refusal) → passed ≡ ReadRecords.Refused why → SettlePromise file (nothingKept why)
       plants-out why is =
-          read-refused why (plants-stopped file long counts first header-read _ _ (subst (λ (x : Passed). PlantsKept file first counts x plants) is kept))
+          read-refused why (plants-stopped file long counts first header-read _ _ (subst (λ (x : ReadRecords). PlantsKept file first counts x plants) is kept))
 
-      pub plants-past : (next : Spot) → passed ≡ Passed.To next → PlantsPast file counts plants next
+      pub plants-past : (next : Spot) → passed ≡ ReadRecords.Whole next → PlantsPast file counts plants next
       plants-past next is =
-          let all = subst (λ (x : Passed). PlantsKept file first counts x plants) is kept in
+          let all = subst (λ (x : ReadRecords). PlantsKept file first counts x plants) is kept in
           record { first = first; header-read = header-read; plants-read = all .0; plants-filled = all .1 }
 
     -- and then its segments
-    module _ (counts : Counts) (plants : Plants) (second : Spot) (past : PlantsPast file counts plants second) (passed : Passed) (segments : Segments) (kept : SegmentsKept file second counts passed segments) where
-      pub segments-out : (why : Refusal) → passed ≡ Passed.Refused why → SettlePromise file (nothingKept why)
+    module _ (counts : Counts) (plants : Plants) (second : Spot) (past : PlantsPast file counts plants second) (passed : ReadRecords) (segments : Segments) (kept : SegmentsKept file second counts passed segments) where
+      pub segments-out : (why : Refusal) → passed ≡ ReadRecords.Refused why → SettlePromise file (nothingKept why)
       segments-out why is =
           read-refused why
           (segments-stopped file long counts (past .first) (past .header-read) (plantsBy plants (counts .plants)) second (past .plants-read) _ _
-          (subst (λ (x : Passed). SegmentsKept file second counts x segments) is kept))
+          (subst (λ (x : ReadRecords). SegmentsKept file second counts x segments) is kept))
 
-      pub network-past : (next : Spot) → passed ≡ Passed.To next → NetworkPast file counts plants segments next
+      pub network-past : (next : Spot) → passed ≡ ReadRecords.Whole next → NetworkPast file counts plants segments next
       network-past next is =
-          let all = subst (λ (x : Passed). SegmentsKept file second counts x segments) is kept in
+          let all = subst (λ (x : ReadRecords). SegmentsKept file second counts x segments) is kept in
           record { second = second; before = past; segments-read = all .0; segments-filled = all .1 }
 
     -- ---- the lines

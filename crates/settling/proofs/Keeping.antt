@@ -17,7 +17,7 @@ use Rattle.records.specs.declared.segment.Segment.{Segment}
 use Rattle.records.specs.Plants.{mostPlants, noPlant}
 use Rattle.records.specs.Segments.{mostSegments, noSegment}
 use Rattle.records.specs.Periods.{plant, segment}
-use Rattle.settling.specs.declared.network.Passed.the-variants.{To as Passed·To}
+use Rattle.reading.specs.declared.whole.ReadRecords.the-variants.{Whole as WholeRecords}
 use Rattle.settling.specs.declared.network.Plants.{Plants}
 use Rattle.settling.specs.declared.network.Segments.{Segments}
 use Rattle.settling.specs.Kept.{plantColumns, plantBy, plantsBy, PlantsKept, segmentColumns, segmentBy, segmentsBy, SegmentsKept}
@@ -100,7 +100,7 @@ module _ {file : List ℕ} {start : Spot} {counts : Counts} {columns : Plants} {
       ∙ listed-all (k .done) noPlant
 
   -- all are
-  pub plants-kept : counts .plants ≤ p → PlantsKept file start counts (Passed·To at) columns
+  pub plants-kept : counts .plants ≤ p → PlantsKept file start counts (WholeRecords at) columns
   plants-kept all =
       let same = plants-are all in (
         none-left (k .passed) all ∙ ap (λ (l : List Plant). whole l at) (sym same),
@@ -162,7 +162,7 @@ module _ {file : List ℕ} {start : Spot} {counts : Counts} {columns : Segments}
       ∙ listed-all (k .done) noSegment
 
   -- all are
-  pub segments-kept : counts .segments ≤ s → SegmentsKept file start counts (Passed·To at) columns
+  pub segments-kept : counts .segments ≤ s → SegmentsKept file start counts (WholeRecords at) columns
   segments-kept all =
       let same = segments-are all in (
         none-left (k .passed) all ∙ ap (λ (l : List Segment). whole l at) (sym same),

@@ -32,7 +32,7 @@ use Rattle.settling.specs.declared.account.SegmentAccounts.{SegmentAccou
 use Rattle.settling.specs.declared.emissions.Emissions.{Emissions}
 use Rattle.settling.specs.declared.emissions.Totals.{Totals}
 use Rattle.settling.specs.declared.flow.Due.{Due}
-use Rattle.settling.specs.declared.network.Passed.the-variants as Passed
+use Rattle.reading.specs.declared.whole.ReadRecords.the-variants as ReadRecords
 use Rattle.settling.specs.declared.network.Plants.{Plants}
 use Rattle.settling.specs.declared.network.Segments.{Segments}
 use Rattle.settling.specs.declared.settling.Settled.{Settled}

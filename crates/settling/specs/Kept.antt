@@ -16,8 +16,8 @@ use Rattle.records.specs.Plants.{mostPlants, plantOf}
 use Rattle.records.specs.Segments.{mostSegments, segmentOf}
 use Rattle.records.specs.Headers.{header}
 use Rattle.records.specs.Periods.{plantsOf, segmentsOf}
-use Rattle.settling.specs.declared.network.Passed.{Passed}
-use Rattle.settling.specs.declared.network.Passed.the-variants as Passed
+use Rattle.reading.specs.declared.whole.ReadRecords.{ReadRecords}
+use Rattle.reading.specs.declared.whole.ReadRecords.the-variants as ReadRecords
 use Rattle.settling.specs.declared.network.Plants.{Plants}
 use Rattle.settling.specs.declared.network.Segments.{Segments}
 
@@ -49,15 +49,15 @@ abbrev pub SegmentsFilled : Segments → ℕ → Type 0
 SegmentsFilled columns count = columns .outflow ≡ filled 0 mostSegments (map (λ (segment : Segment). segment .outflow) (segmentsBy columns count))
 
 -- what reading them comes to
-abbrev pub PlantsKept : List ℕ → Spot → Counts → Passed → Plants → Type 0
-PlantsKept file start counts (Passed.To next) columns =
+abbrev pub PlantsKept : List ℕ → Spot → Counts → ReadRecords → Plants → Type 0
+PlantsKept file start counts (ReadRecords.Whole next) columns =
     (readsFrom (plantsOf counts) file start ≡ whole (plantsBy columns (counts .plants)) next) × PlantsFilled columns (counts .plants)
-PlantsKept file start counts (Passed.Refused refusal) columns = readsFrom (plantsOf counts) file start ≡ stoppedBy refusal
+PlantsKept file start counts (ReadRecords.Refused refusal) columns = readsFrom (plantsOf counts) file start ≡ stoppedBy refusal
 
-abbrev pub SegmentsKept : List ℕ → Spot → Counts → Passed → Segments → Type 0
-SegmentsKept file start counts (Passed.To next) columns =
+abbrev pub SegmentsKept : List ℕ → Spot → Counts → ReadRecords → Segments → Type 0
+SegmentsKept file start counts (ReadRecords.Whole next) columns =
     (readsFrom (segmentsOf counts) file start ≡ whole (segmentsBy columns (counts .segments)) next) × SegmentsFilled columns (counts .segments)
-SegmentsKept file start counts (Passed.Refused refusal) columns = readsFrom (segmentsOf counts) file start ≡ stoppedBy refusal
+SegmentsKept file start counts (ReadRecords.Refused refusal) columns = readsFrom (segmentsOf counts) file start ≡ stoppedBy refusal
 
 -- the header and the plants of a file are read, up to a spot; and then the segments
 pub record PlantsPast (file : List ℕ) (counts : Counts) (plants : Plants) (next : Spot) : Type 0 where

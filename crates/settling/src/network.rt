@@ -5,9 +5,9 @@ ghost use Rattle.records.specs.Plants.{mostPlants};
 ghost use Rattle.records.specs.Segments.{mostSegments};
 ghost use Rattle.records.specs.Within.{CountsWithin};
 ghost use Rattle.settling.specs.Kept.{plantColumns, PlantsKept, segmentColumns, SegmentsKept};
-use fields::Refusal;
 use fields::Spot;
 use reading::ReadPlant;
+use reading::ReadRecords;
 use reading::ReadSegment;
 use reading::read_plant;
 use reading::read_segment;
@@ -29,12 +29,6 @@ pub(crate) struct Segments {
     pub(crate) next: [u32; Segment::MOST],
 }
 
-// What reading so many records came to: where the last one ends, or why the file is refused.
-pub(crate) enum Passed {
-    To(Spot),
-    Refused(Refusal),
-}
-
 // Reads as many plants as the header announced, of which the first starts at a spot, into three columns.
 pub(crate) fn read_plants(
     file: &[u8],
@@ -43,7 +37,7 @@ pub(crate) fn read_plants(
     exported: &mut [u32; Plant::MOST],
     first: &mut [u32; Plant::MOST],
     fraction: &mut [u32; Plant::MOST],
-) -> Passed
+) -> ReadRecords
     requires { ⌜ CountsWithin counts ⌝ }
     requires { ⌜ (now exported ≡ replicate mostPlants 0) × (now first ≡ replicate mostPlants 0) × (now fraction ≡ replicate mostPlants 0) ⌝ }
     ensures { λ r. ⌜ PlantsKept (now (file .entry)) start counts r (plantColumns (now (exported .exit)) (now (first .exit)) (now (fraction .exit))) ⌝ }
@@ -52,7 +46,7 @@ pub(crate) fn read_plants(
     let mut p = 0;
     while p < counts.plants as usize {
         match read_plant(file, at, counts) {
-            ReadPlant::Refused(refusal) => return Passed::Refused(refusal),
+            ReadPlant::Refused(refusal) => return ReadRecords::Refused(refusal),
             ReadPlant::Whole(plant, next) => {
                 exported[p] = plant.exported;
                 first[p] = plant.first;
@@ -62,7 +56,7 @@ pub(crate) fn read_plants(
         }
         p += 1;
     }
-    Passed::To(at)
+    ReadRecords::Whole(at)
 }
 
 // Reads as many segments as the header announced, likewise.
@@ -73,7 +67,7 @@ pub(crate) fn read_segments(
     kind: &mut [u8; Segment::MOST],
     outflow: &mut [u32; Segment::MOST],
     next: &mut [u32; Segment::MOST],
-) -> Passed
+) -> ReadRecords
     requires { ⌜ CountsWithin counts ⌝ }
     requires { ⌜ (now kind ≡ replicate mostSegments 0) × (now outflow ≡ replicate mostSegments 0) × (now next ≡ replicate mostSegments 0) ⌝ }
     ensures { λ r. ⌜ SegmentsKept (now (file .entry)) start counts r (segmentColumns (now (kind .exit)) (now (outflow .exit)) (now (next .exit))) ⌝ }
@@ -82,7 +76,7 @@ pub(crate) fn read_segments(
     let mut s = 0;
     while s < counts.segments as usize {
         match read_segment(file, at, (s + 1) as u64, counts) {
-            ReadSegment::Refused(refusal) => return Passed::Refused(refusal),
+            ReadSegment::Refused(refusal) => return ReadRecords::Refused(refusal),
             ReadSegment::Whole(segment, behind) => {
                 kind[s] = segment.kind;
                 outflow[s] = segment.outflow;
@@ -92,5 +86,5 @@ pub(crate) fn read_segments(
         }
         s += 1;
     }
-    Passed::To(at)
+    ReadRecords::Whole(at)
 }

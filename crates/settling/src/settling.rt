@@ -16,7 +16,6 @@ use crate::emissions::add_up;
 use crate::flow::Due;
 use crate::flow::start;
 use crate::flow::work;
-use crate::network::Passed;
 use crate::network::Plants;
 use crate::network::Segments;
 use crate::network::read_plants;
@@ -25,6 +24,7 @@ use fields::Answer;
 use fields::Refusal;
 use fields::Spot;
 use reading::ReadHeader;
+use reading::ReadRecords;
 use reading::read_header;
 use records::Counts;
 use records::Plant;
@@ -72,8 +72,8 @@ fn settle_records(file: &[u8], start: Spot, counts: Counts) -> Settled
         fraction,
     };
     match passed {
-        Passed::Refused(refusal) => refused(refusal),
-        Passed::To(next) => settle_from_segments(file, next, counts, plants),
+        ReadRecords::Refused(refusal) => refused(refusal),
+        ReadRecords::Whole(next) => settle_from_segments(file, next, counts, plants),
     }
 }
 
@@ -92,8 +92,8 @@ fn settle_from_segments(file: &[u8], start: Spot, counts: Counts, plants: Plants
         next,
     };
     match passed {
-        Passed::Refused(refusal) => refused(refusal),
-        Passed::To(at) => settle_from_lines(file, at, counts, plants, segments),
+        ReadRecords::Refused(refusal) => refused(refusal),
+        ReadRecords::Whole(at) => settle_from_lines(file, at, counts, plants, segments),
     }
 }
 
