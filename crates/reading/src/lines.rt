@@ -2,8 +2,8 @@
 ghost use mathlib.Core.Path.{_≡_};
 ghost use Prim.Native.Nat.{_≤_};
 ghost use lib.ListN.{length};
-ghost use Rattle.fields.specs.Reaching.{readsFrom};
 ghost use Rattle.number.specs.Groups.{largest};
+ghost use Rattle.fields.specs.Reaching.{readsFrom};
 ghost use Rattle.records.specs.Classes.{classes, segmentOwner};
 ghost use Rattle.records.specs.Lines.{largestFactor, lineOf};
 ghost use Rattle.records.specs.Periods.{line};

@@ -1,8 +1,8 @@
 // The segments of a file, one record after another.
 ghost use mathlib.Core.Path.{_≡_};
 ghost use Prim.Native.Nat.{_≤_};
-ghost use Rattle.fields.specs.Reaching.{readsFrom};
 ghost use Rattle.number.specs.Groups.{largest};
+ghost use Rattle.fields.specs.Reaching.{readsFrom};
 ghost use Rattle.records.specs.Segments.{segmentOf, store};
 ghost use Rattle.records.specs.Periods.{segment};
 ghost use Rattle.reading.specs.Found.{segmentFound};

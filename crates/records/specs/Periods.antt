@@ -2,9 +2,9 @@
 use Prim.Native.Nat.{ℕ, _+_, _*_}
 use mathlib.Core.List.{List}
 use Rattle.fields.specs.declared.reason.Reason.the-variants.{WrongPlant, WrongSegment, WrongLine}
+use Rattle.fields.specs.Answers.{Verdict}
 use Rattle.fields.specs.Ranges.{anyAmount}
 use Rattle.fields.specs.Readers.{Reader, return, field, _>>=_, each, Read}
-use Rattle.fields.specs.Answers.{Verdict}
 use Rattle.fields.specs.Files.{fileRead, readVerdict}
 use Rattle.records.specs.declared.counts.Counts.{Counts}
 use Rattle.records.specs.declared.plant.Plant.{Plant}

@@ -14,15 +14,15 @@ use settling::PlantAccounts;
 use settling::SegmentAccounts;
 
 // The bytes of a row.
-const PLANT_BYTES: usize = NUMBER_BYTES * PLANT_NUMBERS;
+const PLANT_ROW_BYTES: usize = NUMBER_BYTES * PLANT_NUMBERS;
 
-const SEGMENT_BYTES: usize = NUMBER_BYTES * SEGMENT_NUMBERS;
+const SEGMENT_ROW_BYTES: usize = NUMBER_BYTES * SEGMENT_NUMBERS;
 
 // Writes the rows of so many plants, as far as there are accounts for them and room in the table.
 pub fn write_plants(table: &mut [u8], accounts: PlantAccounts, count: usize)
     ensures { λ _. ⌜ WritePlantsPromise accounts count (now (table .entry)) (now (table .exit)) ⌝ }
 {
-    let rows = lesser(count, lesser(Plant::MOST, table.len() / PLANT_BYTES));
+    let rows = lesser(count, lesser(Plant::MOST, table.len() / PLANT_ROW_BYTES));
     let mut p = 0;
     while p < rows {
         let row = plant_row(
@@ -31,7 +31,7 @@ pub fn write_plants(table: &mut [u8], accounts: PlantAccounts, count: usize)
             accounts.stored[p],
             accounts.associated[p],
         );
-        write_row(table, PLANT_BYTES * p, &row);
+        write_row(table, PLANT_ROW_BYTES * p, &row);
         p += 1;
     }
 }
@@ -40,7 +40,10 @@ pub fn write_plants(table: &mut [u8], accounts: PlantAccounts, count: usize)
 pub fn write_segments(table: &mut [u8], accounts: SegmentAccounts, count: usize)
     ensures { λ _. ⌜ WriteSegmentsPromise accounts count (now (table .entry)) (now (table .exit)) ⌝ }
 {
-    let rows = lesser(count, lesser(Segment::MOST, table.len() / SEGMENT_BYTES));
+    let rows = lesser(
+        count,
+        lesser(Segment::MOST, table.len() / SEGMENT_ROW_BYTES),
+    );
     let mut s = 0;
     while s < rows {
         let row = segment_row(
@@ -49,7 +52,7 @@ pub fn write_segments(table: &mut [u8], accounts: SegmentAccounts, count: usize)
             accounts.emission[s],
             accounts.plants[s],
         );
-        write_row(table, SEGMENT_BYTES * s, &row);
+        write_row(table, SEGMENT_ROW_BYTES * s, &row);
         s += 1;
     }
 }
