@@ -1,13 +1,13 @@
 -- The walk over the numbers that the period's reading takes, and how that reading ends: by one induction along a reader of fields.
 use Prim.Native.Nat.{ℕ, suc, _+_, _≤_, _<_}
-use mathlib.Core.Path.{_≡_, refl}
+use mathlib.Core.Path.{_≡_, refl, sym, ap, _∙_}
 use mathlib.Core.List.{List, [], _∷_}
 use native.Mathlib.Decide.{decLe}
 use native.Mathlib.Omega.{arith}
 use lib.ListN.{length, drop}
 use denote.Ref.{RefT, now}
-use Rattle.number.specs.Reading.{number as oneNumber, fault as oneFault}
-use Rattle.number.specs.Counting.{startOf, numberAt}
+use Rattle.number.specs.Reading.{Found, number as oneNumber, fault as oneFault}
+use Rattle.number.specs.Counting.{endOf, startOf, numberAt}
 use Rattle.number.proofs.Counting.{first-start, next-start}
 use Rattle.fields.specs.declared.reason.Reason.the-variants.{WrongEdition, WrongLine, BytesAfter}
 use Rattle.fields.specs.Run.{Run, over, run}
@@ -49,7 +49,8 @@ atNumber file k = atByte file (startOf (now file) k)
 pub steps-on :
     (file : RefT (List ℕ)) (k : ℕ) {value next : ℕ} → numberAt (now file) k ≡ oneNumber value next →
     stepped (atNumber file k) ≡ atNumber file (suc k)
-steps-on file k e = rw (e, next-start (now file) k e) refl
+steps-on file k e =
+    ap (λ (found : Found). atByte file (endOf (startOf (now file) k) found)) e ∙ sym (ap (atByte file) (next-start (now file) k e))
 
 -- The walk over some values, how many numbers there are after it, and how reading ends then.
 pub record ConsumedWalk {A : Type 0} (file : RefT (List ℕ)) (k : ℕ) (values : List ℕ) (outcome : Read A) : Type 0 where

@@ -1,4 +1,7 @@
 -- `fields::taking::nothing_after` meets its contract: whether the spot's byte lies in the file decides. Assumes nothing.
+use Prim.Native.Nat.{_<_}
+use lib.ListN.{length}
+use denote.Ref.{now}
 use borrow.Author.Tests.{lt-ltb, le-ltb}
 use borrow.Author.Needs.{needs}
 use Rattle.fields.proofs.taking.nothing_after.Statement.{statement}
@@ -8,7 +11,10 @@ refusal-requires : tie.Need-refusal-requires
 refusal-requires c κs = search needs
 
 returns : tie.Need-returns
-returns c = rw (c .refusal .ensures, lt-ltb _ _ (c .before .if1 .taken))
+returns c =
+    let a = c .before .before .before .before .args in
+    let bytes-follow : a .at .byte < length (now (a .file)) = c .before .if1 .taken in
+    rw (c .refusal .ensures, lt-ltb _ _ bytes-follow)
 
 returns-2 : tie.Need-returns-2
 returns-2 c = rw (le-ltb _ _ (c .if1 .left))
