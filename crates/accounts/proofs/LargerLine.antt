@@ -1,7 +1,7 @@
 -- More of a quantity in one line, and all else the same: where both periods are accepted, no plant gains a unit by it.
 -- Whose line it is does not matter. The CO2 on its way looks at no line, so every plant stores the same in both periods. Every owner's
 -- emission is no less, so no plant is charged less at any segment, and what is associated with it can only lower its net amount.
-use Prim.Native.Nat.{ℕ, suc, _+_, _*_, _≤_, _<_}
+use Prim.Native.Nat.{ℕ, suc, _*_, _≤_, _<_}
 use mathlib.Core.Path.{_≡_}
 use mathlib.Core.Bool.{Bool, true, false, cond}
 use mathlib.Core.List.{List, [], _∷_, _++_, map}

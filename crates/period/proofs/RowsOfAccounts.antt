@@ -1,5 +1,5 @@
 -- The rows of the definitions are those of the settled accounts, and so are the rows by the accounts' columns.
-use Prim.Native.Nat.{ℕ, suc, _+_, _-_}
+use Prim.Native.Nat.{ℕ, suc, _+_}
 use mathlib.Core.Path.{_≡_, refl, sym, ap, ap₂, _∙_}
 use mathlib.Core.List.{List, [], _∷_, _++_, flatMap, map}
 use native.Mathlib.Omega.{arith}

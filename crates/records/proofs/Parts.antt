@@ -20,11 +20,7 @@ use Rattle.records.specs.declared.line.Line.{Line}
 use Rattle.records.specs.declared.plant.Plant.{Plant}
 use Rattle.records.specs.declared.segment.Segment.{Segment}
 use Rattle.records.specs.Headers.{header}
-use Rattle.records.specs.Periods.{Period, plantsOf, segmentsOf, linesOf, records, period, periodFile, periodVerdict}
-
--- the period of these records
-abbrev pub periodOf : List Plant → List Segment → List Line → Period
-periodOf plants segments lines = record { plants = plants; segments = segments; lines = lines }
+use Rattle.records.specs.Periods.{Period, periodOf, plantsOf, segmentsOf, linesOf, records, period, periodFile, periodVerdict}
 
 -- what is said of a file that is refused
 pub refusal-says : (file : List ℕ) (refusal : Refusal) → periodFile file ≡ refusedBy refusal → refusing refusal ≡ periodVerdict file

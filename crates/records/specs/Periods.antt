@@ -22,6 +22,10 @@ pub record Period : Type 0 where
   pub segments : List Segment
   pub lines : List Line
 
+-- The period of these records.
+abbrev pub periodOf : List Plant → List Segment → List Line → Period
+periodOf plants segments lines = record { plants = plants; segments = segments; lines = lines }
+
 -- A plant's record.
 unfoldable pub plant : Counts → Reader Plant
 plant counts = do
@@ -64,7 +68,7 @@ records counts = do
   plants ← plantsOf counts
   segments ← segmentsOf counts
   lines ← linesOf counts
-  return (record { plants = plants; segments = segments; lines = lines })
+  return (periodOf plants segments lines)
 
 -- The numbers of the file, from the first to the last.
 unfoldable pub period : Reader Period

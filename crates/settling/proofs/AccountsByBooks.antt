@@ -15,7 +15,7 @@ use Rattle.records.specs.declared.plant.Plant.{Plant}
 use Rattle.records.specs.declared.segment.Segment.{Segment}
 use Rattle.records.specs.Plants.{noPlant}
 use Rattle.records.specs.Segments.{noSegment}
-use Rattle.records.specs.Periods.{Period}
+use Rattle.records.specs.Periods.{Period, periodOf}
 use Rattle.accounts.specs.Sums.{roundedUp}
 use Rattle.accounts.specs.Flow.{Standing, brings, amounts, Turn, nowhere}
 use Rattle.accounts.specs.Accounts.{Account, account, chargeTo, charges}
@@ -27,7 +27,7 @@ use Rattle.accounts.proofs.TurnsOfPeriod.{after-all, turn-is, past-store}
 use Rattle.settling.specs.declared.emissions.Emissions.{Emissions}
 use Rattle.settling.specs.Settled.{PlantAccount, SegmentAccount, plantAccountAt, segmentAccount, plantAccounts, segmentAccounts}
 use Rattle.settling.specs.Books.{Books, cell}
-use Rattle.settling.specs.Inside.{Small, EmissionsOf, Chargeable, chargesBy, associatedBy, periodOf}
+use Rattle.settling.specs.Inside.{Small, EmissionsOf, Chargeable, chargesBy, associatedBy}
 use Rattle.settling.proofs.Listing.{listed-same, listed-all, listed-map, map-map}
 use Rattle.settling.proofs.BooksAtTurn.{Bounded, after, at, AtTurn, after-length, no-more}
 

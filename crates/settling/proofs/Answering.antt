@@ -22,7 +22,7 @@ use Rattle.fields.proofs.EndOfFile.{more-left, none-left}
 use Rattle.records.specs.declared.counts.Counts.{Counts}
 use Rattle.records.specs.declared.line.Line.{Line}
 use Rattle.records.specs.Headers.{header}
-use Rattle.records.specs.Periods.{Period, linesOf, periodFile}
+use Rattle.records.specs.Periods.{Period, periodOf, linesOf, periodFile}
 use Rattle.records.proofs.Parts.{header-stopped, plants-stopped, segments-stopped, lines-stopped, lines-whole}
 use Rattle.records.proofs.Within.{each-on}
 use Rattle.records.proofs.RecordsWithin.{header-within, plants-within, segments-within}
@@ -36,7 +36,7 @@ use Rattle.settling.specs.declared.network.Segments.{Segments}
 use Rattle.settling.specs.declared.settling.Settled.{Settled}
 use Rattle.settling.specs.Settled.{Settlement, nothingSettled, settledOf, settledBy, settledPeriod, settledAfter, settlement, SettlePromise}
 use Rattle.settling.specs.Kept.{plantsBy, segmentsBy, PlantsKept, SegmentsKept, PlantsPast, NetworkPast}
-use Rattle.settling.specs.Inside.{linesRuling, AddedUp, Given, periodOf, workedOff, SettledBy, nothingKept}
+use Rattle.settling.specs.Inside.{linesRuling, AddedUp, Given, workedOff, SettledBy, nothingKept}
 use Rattle.settling.proofs.NothingKept.{kept-refused}
 
 -- a refusal, and else what follows

@@ -17,6 +17,7 @@ use Rattle.records.specs.declared.segment.Segment.{Segment}
 use Rattle.records.specs.Plants.{noPlant}
 use Rattle.records.specs.Segments.{mostSegments, noSegment}
 use Rattle.records.specs.Within.{CountsWithin, PlantWithin, SegmentWithin}
+use Rattle.records.specs.Periods.{periodOf}
 use Rattle.records.proofs.Within.{each-at}
 use Rattle.accounts.specs.Flow.{Standing, nowhere, atFirst, passes, brings, amounts as entering, passed, turns, arrived}
 use Rattle.accounts.specs.Accounts.{Account, setOf, account, hasBit}
@@ -29,7 +30,7 @@ use Rattle.settling.specs.declared.emissions.Emissions.{Emissions}
 use Rattle.settling.specs.declared.flow.Due.{Due}
 use Rattle.settling.specs.Settled.{Settlement, settledBy}
 use Rattle.settling.specs.Books.{Passes, Books, BooksSized, cell, column, AmountsHold, SetsHold, StoredHold, Started, accountBy}
-use Rattle.settling.specs.Inside.{EmissionsOf, periodOf}
+use Rattle.settling.specs.Inside.{EmissionsOf}
 use Rattle.settling.proofs.Columns.{column-length, column-at}
 
 -- what is known of the plants and the segments: there are so many, and each is within its limits

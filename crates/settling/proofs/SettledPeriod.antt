@@ -24,6 +24,7 @@ use Rattle.records.specs.declared.segment.Segment.{Segment}
 use Rattle.records.specs.Plants.{mostPlants}
 use Rattle.records.specs.Segments.{mostSegments, noSegment}
 use Rattle.records.specs.Within.{PlantWithin, SegmentWithin, mostCounts}
+use Rattle.records.specs.Periods.{periodOf}
 use Rattle.records.proofs.Within.{each-on, plant-within-most, segment-within-most}
 use Rattle.accounts.specs.Flow.{turns, arrived}
 use Rattle.accounts.specs.Accounts.{account}
@@ -40,7 +41,7 @@ use Rattle.settling.specs.declared.network.Segments.{Segments}
 use Rattle.settling.specs.Settled.{PlantAccount, plantAccountAt, segmentAccount, settledOf, settledBy}
 use Rattle.settling.specs.Books.{Books, booksOf, column, Started, Worked}
 use Rattle.settling.specs.Kept.{plantBy, plantsBy, segmentBy, segmentsBy}
-use Rattle.settling.specs.Inside.{EmissionsOf, AllChargeable, Associated, PlantsCounted, PlantColumnsBy, SegmentsCounted, SegmentColumnsBy, Given, dueBy, periodOf, workedOff, SettledBy, nothingKept}
+use Rattle.settling.specs.Inside.{EmissionsOf, AllChargeable, Associated, PlantsCounted, PlantColumnsBy, SegmentsCounted, SegmentColumnsBy, Given, dueBy, workedOff, SettledBy, nothingKept}
 use Rattle.settling.proofs.NothingKept.{kept-refused}
 use Rattle.settling.proofs.Listing.{listed-at, listed-front, filled-by}
 use Rattle.settling.proofs.AccountsByBooks.{inflows-are, sets-are, emissions-are, outflows-are, stored-are, associated-are, fields-are, stored-most, chargeable}

@@ -1,6 +1,6 @@
 -- The books in which the plants' amounts are kept while the segments are worked, and what a segment's turn does to them. No public promise
 -- rests on these; private functions promise them to each other.
-use Prim.Native.Nat.{ℕ, suc, _+_, _-_, _≤_, _<_}
+use Prim.Native.Nat.{ℕ, suc, _≤_, _<_}
 use mathlib.Core.Path.{_≡_}
 use mathlib.Core.Bool.{Bool, cond, _&&_}
 use mathlib.Core.List.{List, [], _∷_, _++_, map}

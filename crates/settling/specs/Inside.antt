@@ -16,12 +16,10 @@ use Rattle.fields.specs.Reaching.{Reach, whole, stopped, readsFrom}
 use Rattle.fields.specs.Tests.{testedBy, listed}
 use Rattle.records.specs.declared.counts.Counts.{Counts}
 use Rattle.records.specs.declared.line.Line.{Line}
-use Rattle.records.specs.declared.plant.Plant.{Plant}
-use Rattle.records.specs.declared.segment.Segment.{Segment}
 use Rattle.records.specs.Plants.{mostPlants}
 use Rattle.records.specs.Segments.{mostSegments}
 use Rattle.records.specs.Classes.{plantOwner, segmentOwner}
-use Rattle.records.specs.Periods.{Period, linesOf}
+use Rattle.records.specs.Periods.{Period, periodOf, linesOf}
 use Rattle.records.specs.Within.{CountsWithin, PlantWithin, SegmentWithin}
 use Rattle.accounts.specs.Sums.{roundedUp}
 use Rattle.accounts.specs.Emissions.{mostGrams, grams, inKg, emission}
@@ -32,7 +30,6 @@ use Rattle.settling.specs.declared.account.SegmentAccounts.{SegmentAccou
 use Rattle.settling.specs.declared.emissions.Emissions.{Emissions}
 use Rattle.settling.specs.declared.emissions.Totals.{Totals}
 use Rattle.settling.specs.declared.flow.Due.{Due}
-use Rattle.reading.specs.declared.whole.ReadRecords.the-variants as ReadRecords
 use Rattle.settling.specs.declared.network.Plants.{Plants}
 use Rattle.settling.specs.declared.network.Segments.{Segments}
 use Rattle.settling.specs.declared.settling.Settled.{Settled}
@@ -183,10 +180,6 @@ pub record Given (plants : Plants) (segments : Segments) (counts : Counts) (emis
 -- the segment at an index, when its turn comes
 abbrev pub dueBy : Segments → Emissions → ℕ → Due
 dueBy segments emissions s = record { index = s; segment = segmentBy segments s; emission = getD (emissions .segments) s 0 }
-
--- the period of these records
-abbrev pub periodOf : List Plant → List Segment → List Line → Period
-periodOf plants segments lines = record { plants = plants; segments = segments; lines = lines }
 
 -- its settlement by the tests after those of the lines
 abbrev pub workedOff : Period → Settlement

@@ -1,9 +1,8 @@
 -- The plants and the segments of a file as the code keeps them, column by column. No public promise rests on these.
-use Prim.Native.Nat.{ℕ, _-_}
+use Prim.Native.Nat.{ℕ}
 use mathlib.Core.Path.{_≡_}
 use mathlib.Core.List.{List, map}
 use lib.ListN.{getD}
-use Rattle.fields.specs.declared.answer.Answer.the-variants.{Refused}
 use Rattle.fields.specs.declared.spot.Spot.{Spot}
 use Rattle.fields.specs.Lists.{filled}
 use Rattle.fields.specs.Spots.{firstSpot}

@@ -22,7 +22,7 @@ const SEGMENT_ROW_BYTES: usize = NUMBER_BYTES * SEGMENT_NUMBERS;
 pub fn write_plants(table: &mut [u8], accounts: PlantAccounts, count: usize)
     ensures { λ _. ⌜ WritePlantsPromise accounts count (now (table .entry)) (now (table .exit)) ⌝ }
 {
-    let rows = lesser(count, lesser(Plant::MOST, table.len() / PLANT_ROW_BYTES));
+    let rows = least(count, least(Plant::MOST, table.len() / PLANT_ROW_BYTES));
     let mut p = 0;
     while p < rows {
         let row = plant_row(
@@ -40,10 +40,7 @@ pub fn write_plants(table: &mut [u8], accounts: PlantAccounts, count: usize)
 pub fn write_segments(table: &mut [u8], accounts: SegmentAccounts, count: usize)
     ensures { λ _. ⌜ WriteSegmentsPromise accounts count (now (table .entry)) (now (table .exit)) ⌝ }
 {
-    let rows = lesser(
-        count,
-        lesser(Segment::MOST, table.len() / SEGMENT_ROW_BYTES),
-    );
+    let rows = least(count, least(Segment::MOST, table.len() / SEGMENT_ROW_BYTES));
     let mut s = 0;
     while s < rows {
         let row = segment_row(
@@ -57,8 +54,8 @@ pub fn write_segments(table: &mut [u8], accounts: SegmentAccounts, count: usize)
     }
 }
 
-// The lesser of two numbers.
-fn lesser(m: usize, n: usize) -> usize
+// The least of two numbers.
+fn least(m: usize, n: usize) -> usize
     ensures { λ r. ⌜ r ≡ min m n ⌝ }
 {
     if m < n { m } else { n }

@@ -20,14 +20,14 @@ Inv-loop table₀ count accounts rows s₀ table s = RowsInBytes segmentNumbers 
 abbrev μ-loop : tie.MeasureT-loop
 μ-loop table₀ count accounts rows s₀ table s = rows - s
 
-lesser-requires : tie.Need-lesser-requires Inv-loop μ-loop
-lesser-requires c κs = search needs
+least-requires : tie.Need-least-requires Inv-loop μ-loop
+least-requires c κs = search needs
 
-lesser-requires-2 : tie.Need-lesser-requires-2 Inv-loop μ-loop
-lesser-requires-2 c κs = search needs
+least-requires-2 : tie.Need-least-requires-2 Inv-loop μ-loop
+least-requires-2 c κs = search needs
 
 loop-holds : tie.Need-loop-holds Inv-loop μ-loop
-loop-holds c = bytes-start segmentNumbers _ (c .lesser2 .result) (now (c .before .before .before .args .table)) (omega (arith, c .lesser2 .ensures, c .before .lesser .ensures))
+loop-holds c = bytes-start segmentNumbers _ (c .least2 .result) (now (c .before .before .before .args .table)) (omega (arith, c .least2 .ensures, c .before .least .ensures))
 
 mul-segment-row : tie.Need-mul-segment-row Inv-loop μ-loop
 mul-segment-row c = omega arith
@@ -88,8 +88,8 @@ returns : tie.Need-returns Inv-loop μ-loop
 returns c =
     let begun = c .before .before in
     let start = begun .before .before .before in
-    let all : begun .lesser2 .result ≡ rowsThere (start .args .count) mostSegments segmentNumbers (now (start .args .table)) =
-    omega (arith, begun .lesser2 .ensures, begun .before .lesser .ensures) in
+    let all : begun .least2 .result ≡ rowsThere (start .args .count) mostSegments segmentNumbers (now (start .args .table)) =
+    omega (arith, begun .least2 .ensures, begun .before .least .ensures) in
     bytes-end segmentNumbers _ (λ i. refl) (c .before .loop .inv) _ all (c .loop-test .left)
 
 pub write-segments-spec : {M : Type 1} → statement M
@@ -98,8 +98,8 @@ write-segments-spec =
     (tie.spec
     Inv-loop
     μ-loop
-    lesser-requires
-    lesser-requires-2
+    least-requires
+    least-requires-2
     loop-holds
     mul-segment-row
     element-copy-out-segment-row
