@@ -16,11 +16,12 @@ use Rattle.fields.specs.Tests.{Test, NoneFails, holds}
 use Rattle.fields.proofs.Testing.{none-answers, none-of-both}
 use Rattle.records.specs.declared.line.Line.{Line}
 use Rattle.records.specs.declared.counts.Counts.{Counts}
+use Rattle.records.specs.Lines.{mostGrams}
 use Rattle.records.specs.Periods.{Period, periodFile}
 use Rattle.records.specs.Held.{recordsOf}
 use Rattle.records.specs.Within.{Within, countsOf}
 use Rattle.records.proofs.Within.{read-within}
-use Rattle.accounts.specs.Emissions.{mostGrams, grams, ownedBy, gramsOf}
+use Rattle.accounts.specs.Emissions.{grams, ownedBy, gramsOf}
 use Rattle.accounts.specs.Accounts.{Account, account}
 use Rattle.accounts.specs.Rows.{plantRows, segmentRows}
 use Rattle.accounts.specs.Order.{refusal, accepted, lineTests, segmentTests, plantNumbers, segmentNumbers, tableTests}
@@ -31,7 +32,7 @@ use Rattle.accounts.proofs.Testing.{refusal-not-accepted, none-fails}
 use Rattle.accounts.proofs.Passing.{getD-map, turns-length}
 use Rattle.accounts.proofs.OwnersLines.{owner-is, no-grams, grams-with, grams-of-both}
 
--- ---- what the lines satisfy when 10 does not refuse one of them
+-- ---- what the lines satisfy if 10 refuses none of them
 -- a total is the one up to any line and that of the lines behind it
 grams-split :
     (choose : Line → Bool) (lines : List Line) (done : ℕ) → gramsOf choose lines ≡ gramsOf choose (take done lines) + gramsOf choose (drop done lines)
@@ -68,7 +69,7 @@ grams-each ownerKind owner lines done (line ∷ left) is (holds test more) few =
         rw (← same .0, ← same .1) (ltb-false mostGrams (gramsOf (ownedBy (line .«owner_kind») (line .owner)) (take (suc done) lines)) test)
     by-owner false o = omega (arith, rw o at one-more, few)
 
--- ---- what a segment's account satisfies when 11, 12 and 13 do not refuse it
+-- ---- what a segment's account satisfies if 11, 12 and 13 do not refuse it
 pub record Sound (a : Account) : Type 0 where
   pub inflow : a .inflow ≤ largest
   pub outflow : a .outflow ≤ a .inflow
@@ -83,7 +84,7 @@ charged-somewhere (suc emission) zero e = absurd (true≢false (sym both ∙ e))
     both = rw (lt-ltb 0 (suc emission) (omega arith), eq-eqb 0 0 refl) refl
 charged-somewhere (suc emission) (suc inflow) e = inr (omega arith)
 
--- where no test of the segments fails, each account is sound
+-- if no test of the segments fails, each account is sound
 pub sound-each :
     (accounts : List Account) → NoneFails (segmentTests accounts) →
     (index : ℕ) (none : Account) → index < length accounts → Sound (getD accounts index none)
@@ -97,7 +98,7 @@ sound-each (a ∷ accounts) (holds i (holds o (holds e more))) zero none below =
 sound-each (a ∷ accounts) (holds i (holds o (holds e more))) (suc index) none below =
     sound-each accounts more index none (omega (arith, below))
 
--- ---- what the tables satisfy when 14 and 15 do not refuse them
+-- ---- what the tables satisfy if 14 and 15 do not refuse them
 pub table-room :
     (counts : Counts) (plantTable segmentTable : ℕ) → NoneFails (tableTests counts plantTable segmentTable) →
     (plantNumbers * counts .plants ≤ plantTable) × (segmentNumbers * counts .segments ≤ segmentTable)

@@ -1,7 +1,7 @@
--- A plant that shares no segment with another has the same results in every accepted period that has the same of it: number, record and lines,
--- and its route with the records and lines of the segments on it.
+-- A plant that shares no segment with another has the same row in every accepted period that has the same for it: number, record and lines,
+-- and its route with the records and lines of the segments on it (rule 13.8). The order of lines does not matter.
 --
--- Where no other plant's route passes a segment, all that comes in there is the plant's own, all that goes out is credited to it, and the
+-- If no other plant's route passes a segment, all that comes in there is the plant's own, all that goes out is credited to it, and the
 -- whole emission is charged to it. So along such a route the plant stores what goes out of the last segment, and is charged the emissions of
 -- all of them. Nothing else of the period counts: not the other plants, segments and lines, and not how many of them there are.
 use Prim.Native.Nat.{ℕ, zero, suc, _+_, _^_, _≤_, _<_}
@@ -29,19 +29,31 @@ use Rattle.accounts.specs.Accepted.{Accepted, held}
 use Rattle.accounts.specs.RowsAndColumns.{rowAt, inRow, setColumn}
 use Rattle.accounts.specs.Shares.{accountAt}
 use Rattle.accounts.specs.Routes.{Leg, routeOf, on, Alone, AloneInRows}
-use Rattle.accounts.specs.Changes.{SameFor}
+use Rattle.accounts.specs.Changes.{SameLines, SameRoute, SameFor}
 use Rattle.accounts.proofs.Bits.{one-bit, same-bits}
 use Rattle.accounts.proofs.OwnersLines.{emission-of-own}
+use Rattle.accounts.proofs.SameLines.{emits-same}
 use Rattle.accounts.proofs.Accepting.{Means, accepted-means}
 use Rattle.accounts.proofs.RowsAt.{plant-row-at, segment-row-at}
 use Rattle.accounts.proofs.TurnsOfPeriod.{turn-plants}
-use Rattle.accounts.proofs.AlongRoutes.{lastOutflow, emissionsAlong, AloneFrom, stored-alone, charged-alone}
+use Rattle.accounts.proofs.AlongRoutes.{lastOutflow, emissionsAlong, same-outflow, same-emissions, AloneFrom, stored-alone, charged-alone}
 use Rattle.accounts.proofs.Meeting.{on-route-within, meet-exactly, others-elsewhere, stands-before, set-is-route, set-within}
 
 -- ---- the row of a plant that is alone on its route, by its number, record, lines and route
 unfoldable rowAlone : (index : ℕ) (plant : Plant) (lines : List Line) (route : List Leg) → List ℕ
 rowAlone index plant lines route =
     plantRow (plant .exported) (plant .fraction) (lastOutflow (atFirst plant .amount) route) (emission plantOwner (suc index) lines + emissionsAlong route)
+
+-- the same lines and the same route give the same row
+same-row :
+    (index : ℕ) (plant : Plant) (lines₁ lines₂ : List Line) {route₁ route₂ : List Leg} → SameLines lines₁ lines₂ → SameRoute route₁ route₂ →
+    rowAlone index plant lines₂ route₂ ≡ rowAlone index plant lines₁ route₁
+unfolding rowAlone
+same-row index plant lines₁ lines₂ lines route =
+    ap₂
+    (plantRow (plant .exported) (plant .fraction))
+    (same-outflow (atFirst plant .amount) route)
+    (ap₂ _+_ (emits-same plantOwner (suc index) lines₁ lines₂ lines) (same-emissions route))
 
 module _
     {period : Period} {plants segments : List ℕ} (means : Means period plants segments) (index : ℕ) (there : index < length (period .plants))
@@ -83,7 +95,7 @@ pub alone-on-its-route :
 alone-on-its-route accepted₁ accepted₂ index there₁ there₂ same alone₁ alone₂ =
     let row₁ = row-alone (accepted-means accepted₁) index there₁ alone₁ in
     let row₂ = row-alone (accepted-means accepted₂) index there₂ alone₂ in
-    row₂ ∙ rw (same .plant, same .lines, same .route) (sym row₁)
+    row₂ ∙ rw (same .plant) (same-row index _ _ _ (same .lines) (same .route)) ∙ sym row₁
 
 -- ---- by the sets that the rows show
 module _ {file plants segments : List ℕ} (given : Accepted file plants segments) where
@@ -96,7 +108,7 @@ module _ {file plants segments : List ℕ} (given : Accepted file plants segment
     row-set : shown ≡ accountAt (held file) s .plants
     row-set = ap (λ (row : List ℕ). getD row setColumn 0) (segment-row-at (accepted-means given) s here)
 
-    -- it has a plant exactly where the plant's route passes
+    -- it has a plant exactly if the plant's route passes
     row-has : (p : ℕ) → p < length (held file .plants) → hasBit shown p ≡ on (suc s) (routeOf (held file) p)
     row-has p among = rw row-set (set-is-route (held file) s here p among)
 
@@ -132,7 +144,7 @@ module _ {file plants segments : List ℕ} (given : Accepted file plants segment
     pub sets-tell : AloneInRows segments (length (held file .segments)) index ↔ Alone (held file) index
     sets-tell = (λ rows other among different. meet-exactly (held file) index other .1 (meets-none rows other among different), shown-alone)
 
--- so the theorem holds as well where the rows of both files show the plant alone
+-- so the theorem also holds if the rows of both files show the plant alone
 pub alone-by-sets :
     {file₁ plants₁ segments₁ file₂ plants₂ segments₂ : List ℕ} → Accepted file₁ plants₁ segments₁ → Accepted file₂ plants₂ segments₂ →
     (index : ℕ) → index < length (held file₁ .plants) → index < length (held file₂ .plants) → SameFor index (held file₁) (held file₂) →

@@ -20,14 +20,16 @@ use Rattle.accounts.specs.Flow.{Standing, nowhere, passes, brings, passe
 use Rattle.accounts.specs.Accounts.{account, chargeTo, charges}
 use Rattle.accounts.specs.Shares.{noTurn, entering, leaving, afterwards}
 use Rattle.accounts.specs.Routes.{Leg, routeFrom}
+use Rattle.accounts.specs.Changes.{SameRoute, ends, goes}
 use Rattle.accounts.proofs.OwnersLines.{emission-of-own}
+use Rattle.accounts.proofs.SameLines.{emits-same}
 use Rattle.accounts.proofs.Credits.{credited-most, credits-sum}
 use Rattle.accounts.proofs.Charges.{charge-nothing}
 use Rattle.accounts.proofs.Passing.{getD-map, passed-at, not-passed-at}
 use Rattle.accounts.proofs.Accepting.{Sound}
 
 -- ---- numbers
--- where only one number is not 0, it is the sum
+-- if only one number is not 0, it is the sum
 only-one : (numbers : List ℕ) (p : ℕ) → ((q : ℕ) → q ≢ p → getD numbers q 0 ≡ 0) → sum numbers ≡ getD numbers p 0
 unfolding sum
 only-one [] p none = refl
@@ -40,7 +42,7 @@ whole-share zero total (inl none) = rw (div-zero (0 * total + (0 - 1))) (sym non
 whole-share zero total (inr some) = absurd (omega (arith, some))
 whole-share (suc a) total some = rw (mul-comm (suc a) total) (digits-div total (omega arith))
 
--- ---- a segment's turn, where no other plant stands before the segments that this one passes
+-- ---- a segment's turn, if no other plant stands before the segments that this one passes
 pub record Undivided (lines : List Line) (p : ℕ) (turn : Turn) : Type 0 where
   pub plant : p < length (turn .standings)
   pub sound : Sound (account lines turn)
@@ -58,7 +60,7 @@ module _ (lines : List Line) (p : ℕ) (turn : Turn) (alone : Undivided lines p 
       (q : ℕ) → q < length (turn .standings) → passes (turn .own) (getD (turn .standings) q nowhere) ≡ false → getD (entering turn) q 0 ≡ 0
   brings-nothing q there e = rw (getD-map (brings (turn .own)) (turn .standings) q nowhere 0 there, e)
 
-  -- where its route does not pass
+  -- if its route does not pass
   module _ (elsewhere : passes (turn .own) standing ≡ false) where
     -- it stays as it is
     stays : getD (afterwards turn) p nowhere ≡ standing
@@ -69,7 +71,7 @@ module _ (lines : List Line) (p : ℕ) (turn : Turn) (alone : Undivided lines p 
     unfolding account
     charged-nothing = rw (brings-nothing p (alone .plant) elsewhere) (charge-nothing (account lines turn))
 
-  -- where its route passes
+  -- if its route passes
   module _ (here : passes (turn .own) standing ≡ true) where
     -- the others bring nothing
     others-nothing : (q : ℕ) → q ≢ p → getD (entering turn) q 0 ≡ 0
@@ -100,7 +102,7 @@ module _ (lines : List Line) (p : ℕ) (turn : Turn) (alone : Undivided lines p 
         rw own (whole-share (getD (entering turn) p 0) (emission segmentOwner (turn .own) lines) (rw own at (alone .sound .emission)))
 
 -- ---- along a route
--- what goes out of its last segment; what a plant brings where the route has none
+-- what goes out of its last segment; if the route has none, what a plant brings
 unfoldable pub lastOutflow : ℕ → List Leg → ℕ
 lastOutflow amount [] = amount
 lastOutflow amount (leg ∷ route) = lastOutflow (leg .segment .outflow) route
@@ -109,6 +111,18 @@ lastOutflow amount (leg ∷ route) = lastOutflow (leg .segment .outflow) route
 unfoldable pub emissionsAlong : List Leg → ℕ
 emissionsAlong [] = 0
 emissionsAlong (leg ∷ route) = emission segmentOwner (leg .own) (leg .lines) + emissionsAlong route
+
+-- both are the same along the same route
+pub same-outflow : (amount : ℕ) {one two : List Leg} → SameRoute one two → lastOutflow amount two ≡ lastOutflow amount one
+unfolding lastOutflow
+same-outflow amount ends = refl
+same-outflow amount (goes {a} same rest) = rw (same .segment) (same-outflow (a .segment .outflow) rest)
+
+pub same-emissions : {one two : List Leg} → SameRoute one two → emissionsAlong two ≡ emissionsAlong one
+unfolding emissionsAlong
+same-emissions ends = refl
+same-emissions (goes {a} {b} same rest) =
+    rw (same .own) (omega (arith, emits-same segmentOwner (a .own) (a .lines) (b .lines) (same .lines), same-emissions rest))
 
 module _ (lines : List Line) (p : ℕ) where
   -- all turns from a segment's number on

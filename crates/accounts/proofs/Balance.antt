@@ -65,7 +65,7 @@ module _ {period : Period} {plants segments : List ℕ} (means : Means period pl
   unfolding account
   loss-told s below = ap (λ (row : List ℕ). getD row lossColumn 0) (segment-row-at means s below)
 
-  -- the exports are what is still held after so many turns, and what was lost in them
+  -- the exports are what is still held after s turns, and what was lost in them
   lost-so-far :
       (s : ℕ) → s ≤ length (period .segments) →
       sum (amountsHeld (started period)) ≡ sum (amountsHeld (after period s)) + columnSum segmentNumbers lossColumn s segments

@@ -65,7 +65,7 @@ one-bit (suc k) (suc s) = rw (higher-bit (2 ^ suc k) s, pow-suc 2 k, mul-div-can
 abbrev pub NoneInBoth : (a b : ℕ) → Type 0
 NoneInBoth a b = (s : ℕ) → hasBit a s ≡ true → hasBit b s ≡ true → ⊥
 
--- that is so exactly where they have no bit in common
+-- that is so exactly if they have no bit in common
 pub no-common-bit : (a b : ℕ) → (bitAnd a b ≡ 0) ↔ NoneInBoth a b
 no-common-bit a b = (apart, bin-ind (λ (a : ℕ). (b : ℕ) → NoneInBoth a b → bitAnd a b ≡ 0) (λ b never. refl) by-half a b)
   where

@@ -2,7 +2,7 @@
 use Prim.Native.Nat.{ℕ, zero, suc, _+_, _-_, _*_, _≤_, _<_}
 use mathlib.Core.Path.{_≡_, refl}
 use mathlib.Core.List.{List}
-use native.Mathlib.Nat.{le-trans, zero-mul, mul-le-mul-left, div-zero, div-mul-le-self, div-lt-iff-lt-mul, lt-div-mul-add}
+use native.Mathlib.Nat.{le-trans, zero-mul, mul-le-mul-left, div-zero, div-mul-le-self, div-lt-iff-lt-mul}
 use native.Mathlib.Omega.{arith}
 use lib.ListN.{getD}
 use Rattle.fields.specs.Lists.{sum}
@@ -12,11 +12,11 @@ use Rattle.accounts.specs.Emissions.{emission}
 use Rattle.accounts.specs.Flow.{Turn}
 use Rattle.accounts.specs.Accounts.{Account, account, charge, chargeTo}
 use Rattle.accounts.specs.Shares.{entering}
-use Rattle.accounts.proofs.Credits.{div-mono, up-part}
+use Rattle.accounts.proofs.Credits.{div-mono, up-least, up-part}
 
 -- ---- a segment's account, and the charge for an amount
 module _ (a : Account) where
-  -- where nothing comes in, nothing is charged
+  -- without inflow nothing is charged
   pub charge-without-inflow : (amount : ℕ) → a .inflow ≡ 0 → charge a amount ≡ 0
   charge-without-inflow amount none = rw none (div-zero _)
 
@@ -32,8 +32,7 @@ module _ (a : Account) where
 
   -- rounded up: no less than the part, taken times the inflow
   pub charge-least : (amount : ℕ) → 0 < a .inflow → amount * a .emission ≤ charge a amount * a .inflow
-  charge-least amount some =
-      omega (arith, lt-div-mul-add {a = amount * a .emission + (a .inflow - 1)} some)
+  charge-least amount = up-least (a .inflow) (amount * a .emission)
 
   -- by less than one kg
   pub charge-most : (amount : ℕ) → charge a amount * a .inflow ≤ amount * a .emission + (a .inflow - 1)
@@ -43,7 +42,7 @@ module _ (a : Account) where
   pub charge-within : (amount : ℕ) → amount ≤ a .inflow → charge a amount ≤ a .emission
   charge-within amount = up-part (a .inflow) amount (a .emission)
 
--- ---- where the lines give a segment a larger emission, no plant's charge there is less: its amount and the inflow are the same
+-- ---- if the lines give a segment a larger emission, no plant's charge there is less: its amount and the inflow are the same
 pub charge-no-less :
     (less more : List Line) (turn : Turn) → emission segmentOwner (turn .own) less ≤ emission segmentOwner (turn .own) more →
     (index : ℕ) → chargeTo index (account less turn) ≤ chargeTo index (account more turn)

@@ -51,13 +51,13 @@ module _ (a : Account) where
       by-test true h = omega (arith, charge-most a (standing .amount))
       by-test false h = rw (charge-nothing a) (omega arith)
 
-  -- nothing where nothing comes in
+  -- nothing without inflow
   all-none : a .inflow ≡ 0 → (entering : List ℕ) → sum (map (charge a) entering) ≡ 0
   unfolding sum
   all-none none [] = refl
   all-none none (amount ∷ rest) = omega (arith, charge-without-inflow a amount none, all-none none rest)
 
--- where something comes in, some plant's route passes
+-- if something comes in, some plant's route passes
 some-pass : (own : ℕ) (standings : List Standing) → 0 < sum (amounts own standings) → 0 < passing own standings
 unfolding sum passing
 some-pass own [] some = omega arith

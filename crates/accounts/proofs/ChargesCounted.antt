@@ -34,7 +34,7 @@ sum-one-more (n ∷ numbers) zero = omega arith
 sum-one-more (n ∷ numbers) (suc count) = omega (arith, sum-one-more numbers count)
 
 module _ (lines : List Line) where
-  -- what so many plants from the first on are charged at a segment
+  -- what the plants from the first on, up to a count of them, are charged at a segment
   abbrev chargedUpTo : ℕ → Turn → ℕ
   chargedUpTo count turn = sum (take count (charged lines turn))
 
@@ -92,7 +92,7 @@ charges-of-plant {file} accepted index below =
     ap (λ (row : List ℕ). getD row associatedColumn 0) (plant-row-at (accepted-means accepted) index below)
     ∙ ap (λ (all : ℕ). emission plantOwner (suc index) (held file .lines) + all) (charges-at (held file .lines) index (turnsOf (held file)))
 
--- ---- the column of so many plants
+-- ---- the column of the plants up to a count of them
 column-up-to :
     {period : Period} {plants segments : List ℕ} → Means period plants segments → (count : ℕ) → count ≤ length (period .plants) →
     columnSum plantNumbers associatedColumn count plants

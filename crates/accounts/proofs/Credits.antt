@@ -13,7 +13,7 @@ use Rattle.accounts.specs.Sums.{roundedUp}
 use Rattle.accounts.specs.Flow.{credit, creditsFrom, credits}
 
 -- ---- division
--- it does not turn an order round, also by 0
+-- it keeps an order, also by 0
 pub div-mono : (d m n : ℕ) → m ≤ n → m / d ≤ n / d
 div-mono zero m n h = rw (div-zero m, div-zero n) (omega arith)
 div-mono (suc d) m n h = le-div-iff-mul-le {k = suc d} (omega arith) .1 (omega (arith, div-mul-le-self m (suc d)))
@@ -34,6 +34,10 @@ up-most zero n most h = omega (arith, div-zero (n + (0 - 1)))
 up-most (suc d) n most h =
     let below : roundedUp n (suc d) < suc most = div-lt-iff-lt-mul {k = suc d} (omega arith) .1 (omega (arith, h)) in
     omega (arith, below)
+
+-- no less than the number itself, taken times the divisor
+pub up-least : (d n : ℕ) → 0 < d → n ≤ roundedUp n d * d
+up-least d n some = omega (arith, lt-div-mul-add {a = n + (d - 1)} some)
 
 -- a part of a whole is no more than the whole
 pub up-part : (d amount whole : ℕ) → amount ≤ d → roundedUp (amount * whole) d ≤ whole
@@ -101,7 +105,7 @@ credited-rounded outflow entering p below some =
     rw (credit-at (sum entering) outflow 0 entering p below)
     (credit-rounded (sum entering) outflow (0 + sum (take p entering)) (getD entering p 0) some)
 
--- and no more than it brought, also behind the last plant, where both are 0
+-- and no more than it brought, also behind the last plant, as both are 0 there
 pub credited-most : (outflow : ℕ) (entering : List ℕ) (p : ℕ) → outflow ≤ sum entering → getD (credits outflow entering) p 0 ≤ getD entering p 0
 credited-most outflow entering p h = by-index (decLe (suc p) (length entering))
   where
@@ -132,7 +136,7 @@ credits-from inflow outflow before (amount ∷ rest) =
     ap (λ (n : ℕ). credit inflow outflow before amount + n) (credits-from inflow outflow (before + amount) rest)
     ∙ credits-two inflow outflow before amount (sum rest)
 
--- one that brings the whole inflow is credited the outflow, where that is no more
+-- one that brings the whole inflow is credited the outflow, if that is no more
 credit-whole : (inflow outflow : ℕ) → outflow ≤ inflow → credit inflow outflow 0 inflow ≡ outflow
 credit-whole inflow outflow h =
     let up = up-most inflow (inflow * outflow) outflow (omega (arith, mul-comm inflow outflow)) in

@@ -1,5 +1,5 @@
--- At every segment of a file that the call accepts, the plants' credits add up to the metered outflow: rounding loses no kg and adds none. Where
--- nothing flows in, the outflow is 0 and so is every credit. The segment's row says the same: its first number is what all plants bring, its
+-- At every segment of a file that the call accepts, the plants' credits add up to the metered outflow: rounding loses no kg and adds none. Without
+-- inflow the outflow is 0 and so is every credit. The segment's row says the same: its first number is what all plants bring, its
 -- second what all are credited.
 use Prim.Native.Nat.{ℕ, _<_}
 use mathlib.Core.Path.{_≡_, sym, ap, _∙_}

@@ -1,13 +1,16 @@
--- 01, "One whole period": its four rows and all proved cases of the table below it, as one statement about the definitions. And two lines of
--- one owner, which are rounded once.
+-- The worked period with its four rows, and fourteen changes of it, as one statement about the definitions (rule 13.11). And two lines of
+-- one owner, which are rounded once (rule 4.3).
 use Prim.Native.Nat.{ℕ}
 use mathlib.Core.Path.{_≡_, refl}
 use mathlib.Core.List.{List, [], _∷_, _++_, zipWith, flatMap}
+use lib.ListN.{drop}
 use Rattle.number.specs.Groups.{gather, value, padded}
-use Rattle.number.specs.Reading.{reading, formed}
+use Rattle.number.specs.Reading.{Found, reading, formed}
+use Rattle.number.specs.Reading.Found.{number, fault}
 use Rattle.number.specs.Writing.{writing, written}
-use Rattle.fields.specs.Run.{runOf, run}
-use Rattle.fields.specs.Readers.{each, reads}
+use Rattle.fields.specs.Run.{Run, starting, runOf, run}
+use Rattle.fields.specs.Readers.{each, read, reads}
+use Rattle.fields.specs.Files.{ended}
 use Rattle.fields.specs.Tests.{testedBy}
 use Rattle.fields.specs.Lists.{sum}
 use Rattle.records.specs.Classes.{plantOwner, classes, classAllowed}
@@ -19,9 +22,10 @@ use Rattle.accounts.specs.Flow.{creditsFrom, passed, turns, arrived}
 use Rattle.accounts.specs.Accounts.{setOf, account}
 use Rattle.accounts.specs.Rows.{plantRows, segmentRows}
 use Rattle.accounts.specs.Order.{refusal, accepted, lineTests, segmentTests}
-use Rattle.accounts.specs.Quantified.{accountsOf, rows, judged, quantified}
+use Rattle.accounts.specs.Quantified.{accountsOf, rows, judged, afterReading, quantified}
+use Rattle.accounts.specs.Accepted.{held}
 
--- The numbers of 01's whole period, but for those that the cases change: the exports, the outflows, the second kind, and the first line's
+-- The numbers of the worked period; the changes are of the exports, the outflows, the second kind, and the first line's
 -- quantity and factor.
 abbrev pub numbers : (export₁ export₂ outflow₁ kind₂ outflow₂ quantity factor : ℕ) → List ℕ
 numbers export₁ export₂ outflow₁ kind₂ outflow₂ quantity factor =
@@ -38,12 +42,18 @@ numbers export₁ export₂ outflow₁ kind₂ outflow₂ quantity factor =
 abbrev pub file : List ℕ → List ℕ
 file = flatMap written
 
--- The whole period as 01 has it.
+-- The file of the worked period.
 abbrev pub whole : List ℕ
 whole = file (numbers 10000 5001 14900 6 14899 2000 350)
 
+-- Whatever is found behind its last number, the file is refused for it.
+found-behind :
+    (found : Found) (rest : ℕ → Run) → afterReading (ended (read (held whole) 26 (starting found rest))) 16 10 ≡ refusal 9 26
+found-behind (number v next) rest = refl
+found-behind (fault k) rest = refl
+
 pub examples :
-    -- the whole period, with tables just large enough
+    -- the worked period, with tables just large enough
     (quantified whole 16 10
     ≡ accepted
     (10000 ∷ 9931 ∷ 69 ∷ 9931 ∷ 879 ∷ 9052 ∷ 9 ∷ 0
@@ -54,20 +64,20 @@ pub examples :
     ∷ []))
     -- empty file
     × (quantified [] 16 10 ≡ refusal 1 0)
-    -- byte 01 alone
+    -- the byte 0x01 alone
     × (quantified (0x01 ∷ []) 16 10 ≡ refusal 1 1)
-    -- bytes 80 00
+    -- the bytes 0x80 0x00
     × (quantified (0x80 ∷ 0x00 ∷ []) 16 10 ≡ refusal 2 0)
-    -- bytes 81 D0 AC F3 0E
+    -- the bytes 0x81 0xD0 0xAC 0xF3 0x0E
     × (quantified (0x81 ∷ 0xD0 ∷ 0xAC ∷ 0xF3 ∷ 0x0E ∷ []) 16 10 ≡ refusal 3 0)
-    -- byte 02 alone
+    -- the byte 0x02 alone
     × (quantified (0x02 ∷ []) 16 10 ≡ refusal 4 0)
-    -- bytes 01 00
+    -- the bytes 0x01 0x00
     × (quantified (0x01 ∷ 0x00 ∷ []) 16 10 ≡ refusal 5 1)
-    -- whole period, second kind 5
+    -- the worked period, second kind 5
     × (quantified (file (numbers 10000 5001 14900 5 14899 2000 350)) 16 10 ≡ refusal 7 15)
-    -- a byte behind the whole period
-    × (quantified (whole ++ 0x00 ∷ []) 16 10 ≡ refusal 9 26)
+    -- a byte behind the worked period, whichever it is
+    × ((byte : ℕ) → quantified (whole ++ byte ∷ []) 16 10 ≡ refusal 9 26)
     -- first line 4000000000 × 1000: plant 1 units 0, deficit 3999990248
     × (quantified (file (numbers 10000 5001 14900 6 14899 4_000_000_000 1000)) 16 10
     ≡ accepted
@@ -92,14 +102,30 @@ pub examples :
     × (quantified (file (numbers 10000 5001 15002 6 14899 2000 350)) 16 10 ≡ refusal 12 1)
     -- nothing is exported and no meter shows anything, but there are lines
     × (quantified (file (numbers 0 0 0 6 0 2000 350)) 16 10 ≡ refusal 13 1)
-    -- plant table of 15 numbers
+    -- a plant table of 15 numbers
     × (quantified whole 15 10 ≡ refusal 14 16)
 unfolding gather value padded reading formed writing written flatMap zipWith classes classAllowed runOf run each reads header plant segment line
     records period periodFile sum chosen gramsOf emission creditsFrom passed turns arrived setOf account plantRows segmentRows testedBy lineTests
-    segmentTests accountsOf rows judged quantified
-examples = (refl, refl, refl, refl, refl, refl, refl, refl, refl, refl, refl, refl, refl, refl, refl)
+    segmentTests accountsOf rows judged quantified held
+examples = (
+  refl,
+  refl,
+  refl,
+  refl,
+  refl,
+  refl,
+  refl,
+  refl,
+  λ byte. found-behind (reading (byte ∷ [])) (λ (next : ℕ). runOf 11 (drop next (byte ∷ []))),
+  refl,
+  refl,
+  refl,
+  refl,
+  refl,
+  refl,
+)
 
--- 01, "Easily done wrongly": half a kg and half a kg more of one owner make one kg
+-- half a kg and half a kg more of one owner make one kg (rule 4.3)
 pub two-lines :
     let line = lineOf plantOwner 1 3 500 1 in
     emission plantOwner 1 (line ∷ line ∷ []) ≡ 1

@@ -45,7 +45,7 @@ in-its-row numbers table i some =
     ∙ sym (getD-drop (numbers * (i / numbers)) table (i % numbers) 0)
     ∙ sym (getD-take numbers (drop (numbers * (i / numbers)) table) (i % numbers) 0 (mod-lt i some))
 
--- where the numbers of every row are entries, those of the table are
+-- if the numbers of every row are entries, those of the table are
 entries-by-rows :
     (numbers count : ℕ) (table : List ℕ) → 0 < numbers → length table ≡ numbers * count →
     ((index : ℕ) → index < count → Entries (rowAt numbers index table)) → Entries table
@@ -62,7 +62,7 @@ entries-by-rows numbers count table some long each i = by-row (decLe (suc (i / n
 abbrev EachFits : ℕ → List ℕ → Type 0
 EachFits = Each (λ (at number : ℕ). number < 2 ^ entryBits)
 
--- where each fits, they are entries
+-- if each fits, they are entries
 row-entries : (at : ℕ) (row : List ℕ) → EachFits at row → Entries row
 unfolding Each
 row-entries at [] all i = omega arith
@@ -70,7 +70,7 @@ row-entries at (number ∷ row) all zero = all .0
 row-entries at (number ∷ row) all (suc i) = row-entries (suc at) row (all .1) i
 
 -- ---- the numbers of one row
--- a plant's, where no more is stored than was exported
+-- a plant's, if no more is stored than was exported
 plant-row-fits :
     (counts : Counts) (own : ℕ) (plant : Plant) (stored associated : ℕ) → PlantWithin counts own plant → stored ≤ plant .exported →
     associated ≤ largest + mostSegments * largest → EachFits 0 (plantRow (plant .exported) (plant .fraction) stored associated)
@@ -81,7 +81,7 @@ plant-row-fits counts own plant stored associated within kept few =
     let net = stored * plant .fraction / millionths - associated in
     omega (arith, within .exported, gross, fraction, div-mul-le-self net kgInUnit)
 
--- a segment's, where no more flows out than in
+-- a segment's, if no more flows out than in
 segment-row-fits :
     (inflow outflow emission plants : ℕ) → inflow ≤ largest → outflow ≤ inflow → emission ≤ largest → plants < 2 ^ entryBits →
     EachFits 0 (segmentRow inflow outflow emission plants)
@@ -124,13 +124,13 @@ module _ {period : Period} {plants segments : List ℕ} (means : Means period pl
       (charge-within (account (period .lines) turn) (getD (entering turn) index 0) (part-of-sum (entering turn) index))
       (emission-most segmentOwner (turn .own))
 
-  -- nor are all charges of a plant over as much for each segment
+  -- all charges of a plant are at most the largest number for each segment
   charges-most : (index : ℕ) (all : List Turn) → charges index (map (account (period .lines)) all) ≤ length all * largest
   unfolding sum
   charges-most index [] = omega arith
   charges-most index (turn ∷ all) = omega (arith, charge-largest index turn, charges-most index all)
 
-  -- so what is associated with a plant is not over so many times as much
+  -- so what is associated with a plant is at most the largest number for its own lines and for each of the most segments
   associated-most : (index : ℕ) → associated (period .lines) (accountsOf period) index ≤ largest + mostSegments * largest
   unfolding accountsOf
   associated-most index =

@@ -2,7 +2,8 @@
 -- line, so the last line of an owner answers for all its lines.
 use Prim.Native.Nat.{ℕ, _≤_}
 use mathlib.Core.List.{List}
-use Rattle.accounts.specs.Emissions.{mostGrams, ownedBy, gramsOf}
+use Rattle.records.specs.Lines.{mostGrams}
+use Rattle.accounts.specs.Emissions.{ownedBy, gramsOf}
 use Rattle.accounts.specs.Accepted.{Accepted, held}
 use Rattle.accounts.proofs.Accepting.{accepted-means}
 

@@ -1,5 +1,5 @@
--- More of a quantity in one line, and all else the same: where both periods are accepted, no plant gains a unit by it.
--- Whose line it is does not matter. The CO2 on its way looks at no line, so every plant stores the same in both periods. Every owner's
+-- More of a quantity in one line, and all else the same: if both periods are accepted, no plant gains a unit by it (rule 13.7).
+-- Whose line it is does not matter. The flow does not depend on lines, so every plant stores the same in both periods. Every owner's
 -- emission is no less, so no plant is charged less at any segment, and what is associated with it can only lower its net amount.
 use Prim.Native.Nat.{ℕ, suc, _*_, _≤_, _<_}
 use mathlib.Core.Path.{_≡_}
@@ -74,7 +74,7 @@ module _ {one two : Period} (larger : OneLineLarger one two) where
         charges-no-less index turns,
       )
 
-  -- the turns are the same, as they look at no line; and so are the plants
+  -- the turns are the same, as they do not depend on lines; and so are the plants
   turns-unchanged : turnsOf two ≡ turnsOf one
   turns-unchanged = cc
 
@@ -90,7 +90,7 @@ module _ {one two : Period} (larger : OneLineLarger one two) where
   associated-no-less index =
       rw turns-unchanged (omega (arith, emission-no-less plantOwner (suc index), charges-no-less index (turnsOf one)))
 
--- ---- the units of a plant that stores the same, where no less is associated with it
+-- ---- the units of a plant that stores the same, if no less is associated with it
 units-no-more :
     (plant : Plant) (stored less more : ℕ) → less ≤ more →
     getD (plantRow (plant .exported) (plant .fraction) stored more) unitsColumn 0 ≤ getD (plantRow (plant .exported) (plant .fraction) stored less) unitsColumn 0

@@ -6,6 +6,7 @@ pub mod Sets
 pub mod Passing
 pub mod AsExported
 pub mod OwnersLines
+mod SameLines
 -- Tests in their order; what acceptance means; the rows by their index, and the turns of a period.
 pub mod Testing
 pub mod Accepting
@@ -32,10 +33,10 @@ pub mod ChargesCounted
 -- No owner's grams pass the limit, and the numbers of both tables are 64-bit numbers.
 pub mod GramsWithin
 pub mod Fits
--- A file is refused exactly for the first of 01's reasons that holds, and accepted exactly where none does.
+-- A file is refused exactly for the first reason that holds, and accepted exactly if none does.
 mod Places
 pub mod Order
 -- No refusal has the number 0.
 pub mod Numbered
--- The whole period of 01 and its proved cases.
+-- The worked period and its changes.
 pub mod Examples

@@ -34,7 +34,7 @@ module _ (lines : List Line) where
   legOf own segment = record { own = own; segment = segment; lines = chosen (ownedBy segmentOwner own) lines }
 
   module _ (own : ℕ) (segment : Segment) (rest : List Segment) (before : ℕ) where
-    -- where it stands before that segment, it passes it and goes on from the next one
+    -- if it stands before that segment, it passes it and goes on from the next one
     route-passes :
         eqb before own ≡ true →
         routeFrom lines own (segment ∷ rest) before ≡ legOf own segment ∷ routeFrom lines (suc own) rest (segment .next)
@@ -46,7 +46,7 @@ module _ (lines : List Line) where
     unfolding routeFrom
     route-leaves e = rw e
 
-  -- it passes no segment but those that are there
+  -- it passes only segments that are there
   not-on-route :
       (own : ℕ) (segments : List Segment) (before number : ℕ) → ((s : ℕ) → s < length segments → own + s ≢ number) →
       on number (routeFrom lines own segments before) ≡ false
@@ -86,7 +86,7 @@ module _ (lines : List Line) where
           (ap (_||_ (eqb k s)) (later (segment .next) s))
       by-test false e later = rw (route-leaves (suc k) segment rest before e) (later before s)
 
-  -- ---- when a segment's turn comes, a plant stands before it exactly where its route passes it
+  -- ---- when a segment's turn comes, a plant stands before it exactly if its route passes it
   module _ (own : ℕ) (segment : Segment) (rest : List Segment) where
     -- the segment whose turn it is
     passes-here : (before : ℕ) → eqb before own ≡ on own (routeFrom lines own (segment ∷ rest) before)
@@ -132,12 +132,12 @@ module _ (lines : List Line) where
 
 -- ---- the routes of a period
 module _ (period : Period) where
-  -- bit s − 1 of a route's mask is set exactly where it passes segment s
+  -- bit s − 1 of a route's mask is set exactly if it passes segment s
   pub mask-has : (p s : ℕ) → hasBit (maskOf (routeOf period p)) s ≡ on (suc s) (routeOf period p)
   unfolding routeOf
   mask-has p s = mask-bits (period .lines) 0 (period .segments) (getD (period .plants) p noPlant .first) s
 
-  -- a route passes no segment but those of the period
+  -- a route passes only segments of the period
   pub on-route-within : (p own : ℕ) → on own (routeOf period p) ≡ true → (1 ≤ own) × (own ≤ length (period .segments))
   unfolding routeOf
   on-route-within p own e = by-number (decLe 1 own) (decLe own (length (period .segments)))
@@ -151,7 +151,7 @@ module _ (period : Period) where
       by-number (yes first) (no last) = absurd (elsewhere (λ s below is. omega arith))
       by-number (no first) last = absurd (elsewhere (λ s below is. omega arith))
 
-  -- two masks have no bit in common exactly where no segment is on both routes
+  -- two masks have no bit in common exactly if no segment is on both routes
   pub meet-exactly :
       (p q : ℕ) →
       Apart (routeOf period p) (routeOf period q) ↔ ((own : ℕ) → on own (routeOf period p) ≡ true → on own (routeOf period q) ≡ true → ⊥)
@@ -165,7 +165,7 @@ module _ (period : Period) where
       by-number zero none one two = omega (arith, on-route-within p 0 one .0)
       by-number (suc s) none one two = common .0 none s (mask-has p s ∙ one) (mask-has q s ∙ two)
 
-  -- where a plant is alone on its route, no other plant's route passes a segment of it
+  -- if a plant is alone on its route, no other plant's route passes a segment of it
   pub others-elsewhere :
       (p : ℕ) → Alone period p → (own : ℕ) → on own (routeOf period p) ≡ true → (q : ℕ) → q < length (period .plants) → q ≢ p →
       on own (routeOf period q) ≡ false
@@ -173,7 +173,7 @@ module _ (period : Period) where
 
   -- ---- the turn of a segment
   module _ (s : ℕ) (here : s < length (period .segments)) where
-    -- a plant stands before the segment exactly where its route passes it
+    -- a plant stands before the segment exactly if its route passes it
     pub stands-before :
         (p : ℕ) → p < length (period .plants) →
         passes (turnAt period s .own) (getD (turnAt period s .standings) p nowhere) ≡ on (suc s) (routeOf period p)

@@ -1,6 +1,6 @@
--- A period file is refused exactly when one of 01's fifteen reasons holds at its place and none of those that come before it in 01's order
--- does; it is accepted exactly when none holds. `specs/AllTests.antt` lists the reasons as tests, each at its place, in that order. Here the
--- answer to a file is shown to be that of the first test that fails, and the rows of the period that stands in the file where none fails.
+-- A period file is refused exactly if one of the fifteen reasons holds at its place and none that comes before it in their order does (rule 8.8);
+-- it is accepted exactly if none holds. `specs/AllTests.antt` lists the reasons as tests, each at its place, in that order. Here the
+-- answer to a file is shown to be that of the first test that fails, and the rows of the period that stands in the file if none fails.
 use Prim.Native.Nat.{ℕ}
 use mathlib.Core.Path.{_≡_, sym, ap, _∙_}
 use mathlib.Core.Logic.{_↔_}
@@ -38,7 +38,7 @@ held-is {file} given = by-reading (period-tried file [])
 
 -- ---- the answer to a file
 module _ (file : List ℕ) (plantTable segmentTable : ℕ) where
-  -- the rows of the period that stands in the file, and all of 01's tests of it
+  -- the rows of the period that stands in the file, and all tests of it
   abbrev rowsAt : Ruling
   rowsAt = rows (periodAt file) (accountsOf (periodAt file))
 
@@ -60,12 +60,12 @@ module _ (file : List ℕ) (plantTable segmentTable : ℕ) where
           ap (λ (outcome : Read Period). afterReading outcome plantTable segmentTable) is ∙ simp listed-length (sym (says rowsAt))
       by-reading (one-fails {number} {place} is says) = reading-refuses file plantTable segmentTable number place is ∙ sym (says rowsAt)
 
-  -- refused only for one of 01's reasons, and always for the first that holds
+  -- refused only for one of the reasons, and always for the first that holds
   pub refused-exactly : (number place : ℕ) → (quantified file plantTable segmentTable ≡ refusal number place) ↔ FirstFails tests number place
   unfolding rows
   refused-exactly number place = (λ e. first-fails tests number place _ _ (sym order ∙ e), λ first. order ∙ first-answers refusal rowsAt first)
 
-  -- accepted only where none of them holds, whatever the rows
+  -- accepted only if none of them holds, whatever the rows
   pub accepted-is : (plants segments : List ℕ) → quantified file plantTable segmentTable ≡ accepted plants segments → NoneFails tests
   accepted-is plants segments e = none-fails tests rowsAt plants segments (sym order ∙ e)
 

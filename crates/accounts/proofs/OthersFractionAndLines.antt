@@ -1,4 +1,4 @@
--- A plant's results do not hang on which part of another's CO2 counts, nor on what another emits itself; also where they share segments.
+-- A plant's row does not depend on which part of another's CO2 counts, nor on what another emits itself; also if they share segments (rule 13.9).
 -- The CO2 is shared as it was exported, whatever its origin, and a segment is charged for its own lines. So all that other plants'
 -- fractions and lines can change is their own rows: the row of the plant that stays the same does not change, and no segment's does.
 use Prim.Native.Nat.{ℕ, suc, _<_}
@@ -21,11 +21,12 @@ use Rattle.accounts.specs.Accepted.{Accepted, held}
 use Rattle.accounts.specs.RowsAndColumns.{rowAt}
 use Rattle.accounts.specs.Changes.{notOthers, OthersOwn}
 use Rattle.accounts.proofs.AsExported.{same-starts}
-use Rattle.accounts.proofs.OwnersLines.{owner-is, same-emission}
+use Rattle.accounts.proofs.OwnersLines.{owner-is}
+use Rattle.accounts.proofs.SameLines.{same-emission}
 use Rattle.accounts.proofs.Accepting.{accepted-means}
 use Rattle.accounts.proofs.RowsAt.{plant-row-at}
 
--- ---- where all other plants' lines are left out, those of any segment and the plant's own are kept
+-- ---- if all other plants' lines are left out, those of any segment and the plant's own are kept
 segment-kept : (index own : ℕ) (line : Line) → ownedBy segmentOwner own line ≡ true → notOthers index line ≡ true
 segment-kept index own line its = rw (eq-eqb (line .«owner_kind») segmentOwner (owner-is segmentOwner own line its .0)) refl
 

@@ -17,7 +17,7 @@ module _ (choose : Line → Bool) where
   unfolding gramsOf chosen sum
   no-grams = refl
 
-  -- one line gives its own, where it is chosen, besides those of the others
+  -- one line gives its own, if it is chosen, besides those of the others
   pub grams-with : (line : Line) (lines : List Line) → gramsOf choose (line ∷ lines) ≡ cond (choose line) (grams line) 0 + gramsOf choose lines
   unfolding gramsOf chosen sum
   grams-with line lines = by-choice (choose line)
@@ -65,14 +65,9 @@ module _ (ownerKind owner : ℕ) where
         by-tests false false c o rest = omega (arith, rw o at (grams-with (ownedBy ownerKind owner) line lines), rest)
 
     -- and its emission
-    emission-of-chosen : (lines : List Line) → emission ownerKind owner (chosen choose lines) ≡ emission ownerKind owner lines
+    pub emission-of-chosen : (lines : List Line) → emission ownerKind owner (chosen choose lines) ≡ emission ownerKind owner lines
     unfolding emission
     emission-of-chosen lines = ap inKg (grams-of-chosen lines)
-
-    -- so where the same lines are chosen, the owner's emission is the same
-    pub same-emission :
-        (one two : List Line) → chosen choose two ≡ chosen choose one → emission ownerKind owner two ≡ emission ownerKind owner one
-    same-emission one two same = sym (emission-of-chosen two) ∙ ap (emission ownerKind owner) same ∙ emission-of-chosen one
 
   -- ---- the owner's lines alone are enough
   pub emission-of-own : (lines : List Line) → emission ownerKind owner (chosen (ownedBy ownerKind owner) lines) ≡ emission ownerKind owner lines

@@ -62,7 +62,7 @@ module _ (own : ℕ) (segment : Segment) (standings : List Standing) where
       getD (passed own segment standings) p nowhere ≡ getD standings p nowhere
   not-passed-at p below elsewhere = rw (passed-at p below, elsewhere) refl
 
--- ---- one plant at a segment: where its route passes it gives its amount for its credit, else it keeps its amount and is credited nothing
+-- ---- one plant at a segment: if its route passes it gives its amount for its credit, else it keeps its amount and is credited nothing
 pub one-sent :
     (own next : ℕ) (standing : Standing) (credit : ℕ) → credit ≤ brings own standing →
     sentOn own next standing credit .amount + brings own standing ≡ standing .amount + credit

@@ -37,7 +37,7 @@ module _ {file plants segments : List ℕ} (given : Accepted file plants segment
           stays = not-passed-at (turn .own) (turn .segment) (turn .standings) p (rw (turn-plants (held file) s segment) plant);
         }
 
-    -- where something flows in, its credit is the proportional part
+    -- if something flows in, its credit is the proportional part
     pub proportional-part : 0 < sum (entering (turnAt (held file) s)) → Credited (turnAt (held file) s) p
     proportional-part some =
         let turn = turnAt (held file) s in

@@ -70,12 +70,12 @@ segment-rows (a ∷ accounts) (suc index) none below =
     next-row segmentNumbers (segmentRow (a .inflow) (a .outflow) (a .emission) (a .plants)) (segmentRows accounts) refl index
     ∙ segment-rows accounts index none (omega (arith, below))
 
--- ---- the tables have so many numbers
+-- ---- how many numbers the tables have
 -- every plant arrives somewhere
 pub stores-length : (period : Period) → length (stores period) ≡ length (period .plants)
 stores-length period = arrived-length 1 (period .segments) (started period) ∙ length-map (period .plants) atFirst
 
--- so many for each plant
+-- the numbers of a row for each plant
 pub plant-rows-long :
     (lines : List Line) (accounts : List Account) (index : ℕ) (plants : List Plant) (end : List Standing) → length end ≡ length plants →
     length (plantRows lines accounts index plants end) ≡ plantNumbers * length plants
@@ -105,12 +105,12 @@ module _ {period : Period} {plants segments : List ℕ} (means : Means period pl
       (stores-length period)
       index index (omega arith) below
 
-  -- the plants' rows have so many numbers together
+  -- how many numbers the plants' rows have together
   pub plants-long : length plants ≡ plantNumbers * length (period .plants)
   plants-long =
       ap length (means .plants-are) ∙ plant-rows-long (period .lines) (accountsOf period) 0 (period .plants) (stores period) (stores-length period)
 
-  -- the segments' rows have so many numbers together
+  -- how many numbers the segments' rows have together
   pub segments-long : length segments ≡ segmentNumbers * length (period .segments)
   segments-long =
       ap length (means .segments-are) ∙ segment-rows-long (accountsOf period) ∙ ap (λ (n : ℕ). segmentNumbers * n) (accounts-length period)

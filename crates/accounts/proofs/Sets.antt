@@ -41,20 +41,20 @@ module _ (own : ℕ) where
   first : (standing : Standing) (rest : List Standing) → setOf own 0 (standing ∷ rest) % 2 ≡ digit (passes own standing)
   first standing rest = rw (first-and-others standing rest) (digits-mod (setOf own 0 rest) (digit-below (passes own standing)))
 
-  -- ---- a set has a plant where the plant's route passes
+  -- ---- a set has a plant exactly if the plant's route passes
   pub set-has : (standings : List Standing) (p : ℕ) → p < length standings → hasBit (setOf own 0 standings) p ≡ passes own (getD standings p nowhere)
   set-has [] p h = absurd (not-suc-le-zero h)
   set-has (standing ∷ rest) zero h = rw (div-one, first standing rest) (digit-tells (passes own standing))
   set-has (standing ∷ rest) (suc p) h = rw (higher-bit (setOf own 0 (standing ∷ rest)) p, others standing rest) (set-has rest p (le-of-suc-le-suc h))
 
-  -- ---- a set has no plants but those that are there
+  -- ---- a set has no other plants than those that are there
   pub set-below : (standings : List Standing) → setOf own 0 standings < 2 ^ length standings
   unfolding setOf
   set-below [] = omega arith
   set-below (standing ∷ rest) =
       omega (arith, set-below rest, first-and-others standing rest, digit-below (passes own standing), pow-suc 2 (length rest))
 
-  -- ---- a set with one plant more: its bit is added where its route passes
+  -- ---- a set with one plant more: its bit is added if its route passes
   one-more :
       (standings : List Standing) (one : Standing) →
       setOf own 0 (standings ++ one ∷ []) ≡ setOf own 0 standings + cond (passes own one) (2 ^ length standings) 0
@@ -80,7 +80,7 @@ module _ (own : ℕ) where
       (standings : List Standing) (one : Standing) → passes own one ≡ false → setOf own 0 (standings ++ one ∷ []) ≡ setOf own 0 standings
   set-without standings one e = omega (arith, rw e at (one-more standings one))
 
--- ---- where the same plants pass, the sets are the same
+-- ---- if the same plants pass, the sets are the same
 pub set-same :
     (own own' : ℕ) (standings standings' : List Standing) → length standings' ≡ length standings →
     ((p : ℕ) → p < length standings → passes own' (getD standings' p nowhere) ≡ passes own (getD standings p nowhere)) →
@@ -96,7 +96,7 @@ set-same own own' (standing ∷ rest) (standing' ∷ rest') long same =
     (same 0 (zero-lt-suc (length rest)))
     ∙ sym (first-and-others own standing rest)
 
--- ---- where the plants of one segment join those of the next, the sets are joined bit by bit
+-- ---- if the plants of one segment join those of the next, the sets are joined bit by bit
 pub set-joined :
     (next own : ℕ) (standings standings' : List Standing) → length standings' ≡ length standings →
     ((p : ℕ) → p < length standings →

@@ -22,7 +22,7 @@ use Rattle.accounts.specs.Shares.{noTurn, turnAt, entering, leaving, aft
 use Rattle.accounts.proofs.Passing.{getD-map, passed-at, arrived-length, arrived-on, turn-at}
 use Rattle.accounts.proofs.Accepting.{Means}
 
--- ---- one plant on its way: after so many turns it stands before a segment that is still to come, or is past its store
+-- ---- one plant on its way: after s turns it stands before a segment that is still to come, or is past its store
 abbrev Ahead : (segments s : ℕ) → Standing → Type 0
 Ahead segments s standing = (standing .before ≡ 0) ⊎ ((s < standing .before) × (standing .before ≤ segments))
 
@@ -40,7 +40,7 @@ sent-ahead segments s own next credit standing number later now = by-test (passe
 
 -- ---- the turns of a period
 module _ (period : Period) where
-  -- where the plants are after so many turns
+  -- where the plants are after s turns
   abbrev pub after : ℕ → List Standing
   after s = arrived 1 (take s (period .segments)) (started period)
 
@@ -102,7 +102,7 @@ module _ (period : Period) where
     here : p < length (turnAt period s .standings)
     here = rw (turn-plants s below) plant
 
-    -- and among those whose amounts enter, even where its own is 0
+    -- and among those whose amounts enter, even if its own is 0
     pub enters : p < length (entering (turnAt period s))
     enters = rw (length-map (turnAt period s .standings) (brings (turnAt period s .own))) here
 

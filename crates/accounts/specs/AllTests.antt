@@ -1,5 +1,4 @@
--- 01's numbers of refusal and their order once more, without a reader of fields: every test of a file at its place, in order.
--- `proofs/Order.antt` shows that the answer is that of the first test that fails.
+-- All tests of a file, each at its place and in order, without a reader; by `proofs/Order.antt` the first that fails is the answer.
 use Prim.Native.Nat.{ℕ, suc, _+_, _*_}
 use mathlib.Core.List.{List, [], _∷_, _++_}
 use lib.Dec.{eqb}
@@ -20,10 +19,11 @@ use Rattle.accounts.specs.Order.{lineTests, segmentTests, tableTests}
 use Rattle.accounts.specs.Quantified.{accountsOf}
 
 -- ---- where the records stand: a header, and then P plants, S segments and L lines
+-- The counts that the header tells (rule 2.3).
 unfoldable pub countsAt : List ℕ → Counts
 countsAt file = announced (valueAt file 1) (valueAt file 2) (valueAt file 3)
 
--- the first number of a plant, a segment and a line, each at an index from 0
+-- The place of the first number of a plant, and below of a segment and of a line, each at an index from 0 (rules 2.1 and 2.2).
 abbrev pub plantPlace : ℕ → ℕ
 plantPlace index = headerFields + plantFields * index
 
@@ -33,7 +33,7 @@ segmentPlace counts index = plantPlace (counts .plants) + segmentFields * index
 abbrev pub linePlace : Counts → ℕ → ℕ
 linePlace counts index = segmentPlace counts (counts .segments) + lineFields * index
 
--- how many numbers there have to be
+-- How many numbers a file with these counts has (rule 2.2).
 abbrev pub numberCount : Counts → ℕ
 numberCount counts = linePlace counts (counts .lines)
 
@@ -53,7 +53,7 @@ lineAt file index =
     let k = linePlace (countsAt file) index in
     lineOf (valueAt file k) (valueAt file (1 + k)) (valueAt file (2 + k)) (valueAt file (3 + k)) (valueAt file (4 + k))
 
--- the period that these records make
+-- The period that these records make (rule 2.2).
 unfoldable pub periodAt : List ℕ → Period
 periodAt file = record {
   plants = listed (plantAt file) 0 (countsAt file .plants);
@@ -62,7 +62,7 @@ periodAt file = record {
 }
 
 -- ---- the tests
--- 4 for the edition, 5 for each of the three counts
+-- 4 for the edition, 5 for each of the three counts (rules 2.3 and 8.3).
 unfoldable pub headerTests : List ℕ → List Test
 headerTests file =
     fieldTests WrongEdition (eqb edition) file 0
@@ -70,7 +70,7 @@ headerTests file =
     ++ (fieldTests WrongCount segmentsAllowed file 2
     ++ fieldTests WrongCount linesAllowed file 3))
 
--- 6, for the fields of a plant
+-- 6 for the fields of a plant (rules 2.4 and 8.3).
 unfoldable pub plantTests : List ℕ → ℕ → List Test
 plantTests file index =
     let k = plantPlace index in
@@ -78,7 +78,7 @@ plantTests file index =
     ++ (fieldTests WrongPlant (firstAllowed (countsAt file)) file (1 + k)
     ++ fieldTests WrongPlant fractionAllowed file (2 + k))
 
--- 7, for those of a segment
+-- 7 for the fields of a segment (rules 2.5 to 2.7 and 8.3).
 unfoldable pub segmentFieldTests : List ℕ → ℕ → List Test
 segmentFieldTests file index =
     let k = segmentPlace (countsAt file) index in
@@ -86,7 +86,7 @@ segmentFieldTests file index =
     ++ (numberTests file (1 + k)
     ++ fieldTests WrongSegment (nextAllowed (countsAt file) (suc index) (valueAt file k)) file (2 + k))
 
--- 8, for those of a line
+-- 8 for the fields of a line (rules 2.8, 3.2 and 8.3).
 unfoldable pub lineFieldTests : List ℕ → ℕ → List Test
 lineFieldTests file index =
     let k = linePlace (countsAt file) index in
@@ -96,7 +96,7 @@ lineFieldTests file index =
     ++ (numberTests file (3 + k)
     ++ fieldTests WrongLine factorAllowed file (4 + k))))
 
--- the tests of reading: the fields of all records in their order, then the end of the file
+-- The tests of reading: the fields of all records in their order, then the end of the file (rules 8.3 and 8.4).
 unfoldable pub readingTests : List ℕ → List Test
 readingTests file =
     let counts = countsAt file in
@@ -106,8 +106,7 @@ readingTests file =
     ++ (testsOfEach (lineFieldTests file) 0 (counts .lines)
     ++ endTest file (numberCount counts) ∷ [])))
 
--- All tests of a file, with tables of so many numbers: those of reading, then the grams line by line (10), the segments one by one (11 to 13),
--- and the room in both tables (14, 15).
+-- All tests of a file: of reading (1 to 9), lines (10), segments (11 to 13) and tables (14, 15), which have these lengths (rule 8.8).
 unfoldable pub allTests : List ℕ → (plantTable segmentTable : ℕ) → List Test
 allTests file plantTable segmentTable =
     let period = periodAt file in

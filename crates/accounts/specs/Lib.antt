@@ -1,4 +1,4 @@
--- The definitions of 01 for the accounts and the answer to a file, lowest first.
+-- The definitions of the accounts and of the answer to a file, lowest first.
 
 -- the accounts
 pub mod Sums

@@ -1,4 +1,4 @@
--- The order of refusals: the tests of a period that was read, one after another.
+-- The tests of a period that was read, in their order, and the ruling.
 use Prim.Native.Nat.{ℕ, suc, _*_}
 use mathlib.Core.Bool.{_&&_}
 use mathlib.Core.List.{List, [], _∷_}
@@ -9,19 +9,20 @@ use Rattle.fields.specs.declared.reason.Reason.the-variants.{TooManyGrams, Infl
 use Rattle.fields.specs.Tests.{Test, testedBy}
 use Rattle.records.specs.declared.line.Line.{Line}
 use Rattle.records.specs.declared.counts.Counts.{Counts}
-use Rattle.accounts.specs.Emissions.{mostGrams, ownedBy, gramsOf}
+use Rattle.records.specs.Lines.{mostGrams}
+use Rattle.accounts.specs.Emissions.{ownedBy, gramsOf}
 use Rattle.accounts.specs.Accounts.{Account}
 
--- Refused with number and place; or accepted, with the numbers of both tables.
+-- The answer to a file: refused with number and place, or accepted with the numbers of both tables (rule 8.8).
 pub data Ruling : Type 0 where
   refusal : (number place : ℕ) → Ruling
   accepted : (plants segments : List ℕ) → Ruling
 
--- The first test that fails refuses; where none does, the ruling stands.
+-- The first test that fails refuses; if none fails, the given ruling is the answer (rule 8.8).
 abbrev pub tested : List Test → Ruling → Ruling
 tested = testedBy refusal
 
--- 10, line by line: the total of the line's owner, this line included
+-- 10, line by line, with the line's number as place: the total of its owner up to and with this line (rules 8.2 and 8.5).
 unfoldable pub lineTests : List Line → (done : ℕ) → List Line → List Test
 lineTests lines done [] = []
 lineTests lines done (line ∷ rest) =
@@ -32,7 +33,7 @@ lineTests lines done (line ∷ rest) =
     }
     ∷ lineTests lines (suc done) rest
 
--- 11, 12 and 13, segment by segment
+-- 11, 12 and 13, segment by segment, with the segment's number as place (rules 8.2 and 8.6).
 unfoldable pub segmentTests : List Account → List Test
 segmentTests [] = []
 segmentTests (a ∷ accounts) =
@@ -41,14 +42,14 @@ segmentTests (a ∷ accounts) =
     ∷ record { fails = ltb 0 (a .emission) && eqb (a .inflow) 0; reason = EmissionWithoutInflow; place = a .own }
     ∷ segmentTests accounts
 
--- how many numbers the rows take, of a plant and of a segment
+-- How many numbers a row has, of a plant and of a segment (rules 7.1 and 7.2).
 abbrev pub plantNumbers : ℕ
 plantNumbers = 8
 
 abbrev pub segmentNumbers : ℕ
 segmentNumbers = 5
 
--- 14 and 15: the room in the tables, last of all
+-- 14 and 15: whether each table has room for its rows; the place is how many numbers these have (rule 8.7).
 abbrev pub tableTests : Counts → (plantTable segmentTable : ℕ) → List Test
 tableTests counts plantTable segmentTable =
     let plantsNeed = plantNumbers * counts .plants in

@@ -1,4 +1,4 @@
--- The answer to a period file: what the call gives for every file and every pair of tables.
+-- The answer to a period file, for every file and every length of both tables.
 use Prim.Native.Nat.{ℕ}
 use mathlib.Core.List.{List, _++_, map}
 use Rattle.fields.specs.Readers.{Read, read, refused}
@@ -9,29 +9,30 @@ use Rattle.accounts.specs.Accounts.{Account, account}
 use Rattle.accounts.specs.Rows.{plantRows, segmentRows}
 use Rattle.accounts.specs.Order.{Ruling, refusal, accepted, tested, lineTests, segmentTests, tableTests}
 
--- Where the plants of a period start.
+-- Where the plants of a period start (rule 5.2).
 abbrev pub started : Period → List Standing
 started period = map atFirst (period .plants)
 
--- The turns of the segments in rising number, from 1, and their accounts.
+-- The turns of a period's segments, from segment 1 on (rule 5.1).
 abbrev pub turnsOf : Period → List Turn
 turnsOf period = turns 1 (period .segments) (started period)
 
+-- The account of each turn (rule 5.3).
 unfoldable pub accountsOf : Period → List Account
 accountsOf period = map (account (period .lines)) (turnsOf period)
 
--- Where the plants are when all segments are worked.
+-- Where the plants are after all turns: the amount is what is stored (rule 5.6).
 abbrev pub stores : Period → List Standing
 stores period = arrived 1 (period .segments) (started period)
 
--- The rows of both tables.
+-- Acceptance, with the rows of both tables (rules 7.1 and 7.2).
 unfoldable pub rows : Period → List Account → Ruling
 rows period accounts =
     accepted
     (plantRows (period .lines) accounts 0 (period .plants) (stores period))
     (segmentRows accounts)
 
--- A period that was read, put to the tests that are left, with tables of so many numbers.
+-- The ruling on a period that was read: the tests 10 to 15, with tables of these lengths (rules 8.5 to 8.8).
 unfoldable pub judged : Period → List Account → (plantTable segmentTable : ℕ) → Ruling
 judged period accounts plantTable segmentTable =
     tested
@@ -40,11 +41,11 @@ judged period accounts plantTable segmentTable =
     ++ tableTests (countsOf period) plantTable segmentTable))
     (rows period accounts)
 
--- What reading came to, and then the rest.
+-- A refusal of reading is the answer; a period that was read is judged (rule 8.8).
 abbrev pub afterReading : Read Period → (plantTable segmentTable : ℕ) → Ruling
 afterReading (refused number place) plantTable segmentTable = refusal number place
 afterReading (read period place rest) plantTable segmentTable = judged period (accountsOf period) plantTable segmentTable
 
--- The answer to a file, with tables of so many numbers.
+-- The answer to a file, with tables of these lengths (rule 8.8).
 unfoldable pub quantified : List ℕ → (plantTable segmentTable : ℕ) → Ruling
 quantified file plantTable segmentTable = afterReading (periodFile file) plantTable segmentTable

@@ -1,29 +1,30 @@
--- The numbers of the two tables, by their rows: where the results of plants and segments stand.
+-- The two tables by rows and columns: where each result stands.
 use Prim.Native.Nat.{ℕ, zero, suc, _+_, _*_, _^_, _<_}
 use mathlib.Core.List.{List}
 use lib.ListN.{take, drop, getD}
 
--- the row at an index from 0, of a table whose rows have so many numbers
+-- The row at an index from 0, of a table with `numbers` entries in each row.
 abbrev pub rowAt : (numbers index : ℕ) → List ℕ → List ℕ
 rowAt numbers index table = take numbers (drop (numbers * index) table)
 
--- a number of a row
+-- A number of that row, by its column from 0.
 abbrev pub inRow : (numbers index column : ℕ) → List ℕ → ℕ
 inRow numbers index column table = getD (rowAt numbers index table) column 0
 
--- a column of so many rows, added up
+-- A column of the first `count` rows, added up (rule 13.6).
 unfoldable pub columnSum : (numbers column count : ℕ) → List ℕ → ℕ
 columnSum numbers column zero table = 0
 columnSum numbers column (suc count) table = columnSum numbers column count table + inRow numbers count column table
 
--- each of a table's numbers fits the 64 bits of its entry
+-- The bits of an entry (rule 10.4).
 abbrev pub entryBits : ℕ
 entryBits = 64
 
+-- Each number of a table fits its entry (rules 9.3 and 10.4).
 abbrev pub Entries : List ℕ → Type 0
 Entries table = (i : ℕ) → getD table i 0 < 2 ^ entryBits
 
--- the columns of the plant table that the theorems name
+-- The columns of the plant table that the theorems name (rule 7.1).
 abbrev pub exportedColumn : ℕ
 exportedColumn = 0
 
@@ -36,7 +37,7 @@ associatedColumn = 4
 abbrev pub unitsColumn : ℕ
 unitsColumn = 6
 
--- those of the segment table
+-- Those of the segment table (rule 7.2).
 abbrev pub inflowColumn : ℕ
 inflowColumn = 0
 

@@ -1,4 +1,4 @@
--- What happens at one segment of a period: what each plant brings, what it is credited, what it is charged.
+-- What happens at one segment of a period: what each plant brings, is credited and is charged.
 use Prim.Native.Nat.{ℕ, zero, suc, _+_, _*_, _/_, _≤_, _<_}
 use mathlib.Core.Path.{_≡_}
 use mathlib.Core.Bool.{true, false}
@@ -16,48 +16,48 @@ use Rattle.accounts.specs.Flow.{Standing, nowhere, passes, amounts, cred
 use Rattle.accounts.specs.Accounts.{Account, account, charge}
 use Rattle.accounts.specs.Quantified.{turnsOf}
 
--- what a list of turns holds where it holds none
+-- What a list of turns gives behind its end.
 abbrev pub noTurn : Turn
 noTurn = record { own = 0; segment = noSegment; standings = [] }
 
--- the turn of the segment at an index from 0
+-- The turn of the segment at an index from 0 (rule 5.1).
 abbrev pub turnAt : Period → ℕ → Turn
 turnAt period index = getD (turnsOf period) index noTurn
 
--- its account
+-- Its account (rule 5.3).
 abbrev pub accountAt : Period → ℕ → Account
 accountAt period index = account (period .lines) (turnAt period index)
 
--- the amounts that the plants bring to a segment, 0 where a route does not pass
+-- What each plant brings to a segment, 0 if its route does not pass (rule 5.2).
 abbrev pub entering : Turn → List ℕ
 entering turn = amounts (turn .own) (turn .standings)
 
--- what the plants are credited there
+-- What each plant is credited there (rules 5.4 and 13.5).
 abbrev pub leaving : Turn → List ℕ
 leaving turn = credits (turn .segment .outflow) (entering turn)
 
--- where they are afterwards: when the next segment's turn comes, or behind the last one
+-- Where the plants are after the turn (rule 5.5).
 abbrev pub afterwards : Turn → List Standing
 afterwards turn = passed (turn .own) (turn .segment) (turn .standings)
 
--- what they are charged there
+-- What each plant is charged there (rule 6.1).
 abbrev pub charged : List Line → Turn → List ℕ
 charged lines turn = map (charge (account lines turn)) (entering turn)
 
--- what the plants emit themselves, of so many from the first on
+-- What each of the first `count` plants emits by its own lines (rule 4.3).
 unfoldable pub ownEmissions : List Line → ℕ → List ℕ
 ownEmissions lines zero = []
 ownEmissions lines (suc count) = ownEmissions lines count ++ emission plantOwner (suc count) lines ∷ []
 
 -- ---- one plant at a segment
--- what the plant at an index from 0 brings there, and what it is credited
+-- What the plant at an index from 0 brings there, and below what it is credited (rules 5.2 and 5.4).
 abbrev pub amountOf : Turn → ℕ → ℕ
 amountOf turn index = getD (entering turn) index 0
 
 abbrev pub creditOf : Turn → ℕ → ℕ
 creditOf turn index = getD (leaving turn) index 0
 
--- It is sent on: with its credit, no more than it brings, to the next segment where its route passes; else it stays as it is.
+-- It is sent on: its credit, no more than it brings, goes to the next segment if its route passes; else it stays as it is (rules 5.5 and 13.4).
 pub record SentOn (turn : Turn) (index : ℕ) : Type 0 where
   pub no-more : creditOf turn index ≤ amountOf turn index
   pub goes-on :
@@ -67,7 +67,7 @@ pub record SentOn (turn : Turn) (index : ℕ) : Type 0 where
       passes (turn .own) (getD (turn .standings) index nowhere) ≡ false →
       getD (afterwards turn) index nowhere ≡ getD (turn .standings) index nowhere
 
--- It is credited what its share of the inflow has of the outflow, to the kg below or above; and it is sent on.
+-- It is credited its proportional part of the outflow, rounded down or up, and sent on with that (rule 13.4).
 pub record Credited (turn : Turn) (index : ℕ) : Type 0 where
   pub rounded :
       (creditOf turn index ≡ amountOf turn index * turn .segment .outflow / sum (entering turn))
@@ -75,11 +75,11 @@ pub record Credited (turn : Turn) (index : ℕ) : Type 0 where
   pub sent-on : SentOn turn index
 
 -- ---- all plants at a segment
--- What its charges add up to, beside its emission, its inflow and the number of plants on it.
+-- What the charges add up to, beside the emission, the inflow and the number of plants on the segment (rule 13.10).
 pub record AddUp (emission inflow plants charges : ℕ) : Type 0 where
-  -- they come to no less than E
+  -- no less than E
   pub no-less : emission ≤ charges
-  -- and to less than a kg more for each plant
+  -- with inflow less than a kg more for each plant
   pub fewer : 0 < inflow → charges < emission + plants
-  -- and where nothing comes in, there is nothing to charge
+  -- without inflow there is no emission and no charge
   pub none : inflow ≡ 0 → (emission ≡ 0) × (charges ≡ 0)

@@ -1,4 +1,4 @@
-// The head of a case, which stands before its file: what is asked, and how many bytes the file has.
+// The head of a case, which comes before its file: what is asked, and how many bytes the file has.
 ghost use Prim.Native.Nat.{_+_, _≤_};
 ghost use lib.ListN.{length};
 use input::Input;
@@ -25,22 +25,22 @@ const NUMBER: u8 = b'N';
 
 const PERIOD: u8 = b'P';
 
-// Each byte of a number stands so many bits above the one before it.
+// How many bits each byte of a number is above the one before it.
 const BITS_IN_A_BYTE: u64 = 8;
 
 // What is asked of a case's file.
 pub(crate) enum Kind {
-    // What number stands at the byte.
+    // What number is at the byte.
     Number { at: usize },
     // How it is read as a period file.
     Period,
 }
 
-// What came where the head of a case may stand.
+// What came where the head of a case may start.
 pub(crate) enum Head {
     // What is asked, and the count of the bytes of the file that follows.
     Whole { kind: Kind, count: usize },
-    // No case follows: the input has ended, or a fault of it was said.
+    // No case follows: the input has ended, or a fault of it was said on standard error.
     Nothing,
 }
 
@@ -64,7 +64,7 @@ pub(crate) fn next_head() -> Head {
     head_of(&head)
 }
 
-// What the bytes of a head say. A kind that is neither letter is a fault, and is said.
+// What the bytes of a head say. A kind that is neither letter is said on standard error.
 fn head_of(head: &[u8; HEAD_BYTES]) -> Head {
     let at = number_of(head, ASKED_START, ASKED_BYTES) as usize;
     let count = number_of(head, COUNT_START, COUNT_BYTES) as usize;
@@ -84,7 +84,7 @@ fn head_of(head: &[u8; HEAD_BYTES]) -> Head {
     }
 }
 
-// The number in some of the bytes, least significant byte first.
+// The number in `count` bytes from `start` on, least significant byte first.
 fn number_of(bytes: &[u8], start: usize, count: usize) -> u64
     requires { ⌜ start + count ≤ length (now bytes) ⌝ }
 {

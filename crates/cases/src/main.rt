@@ -1,12 +1,8 @@
-// The number reader and the reading of period files, put to many cases in one run: for each case on
-// standard input, a line on standard output.
-//
-// A case is its kind in 1 byte, the asked byte in 8 and the count of the file's bytes in 4, both least
-// significant byte first, and then the file's bytes. Of kind N it asks what stands at that byte: the
-// line is "N value next" for a number, and "R refusal byte" for a fault. Of kind P it asks how the file
-// is read as a period file, whatever the asked byte: the line is "A" and all its numbers in file order,
-// as the records hold them, and that of a refused file is "R refusal place". Input that is no whole
-// case is said on standard error and ends the run.
+// The test program: for each case on standard input it prints a line, what number reading or the reading of a period file answers.
+// A case is its kind in 1 byte, the asked byte in 8 and the file's length in 4, both least significant byte first, and then the file.
+// Kind N asks what number reading finds at that byte: "N value next", or for a fault "R refusal byte". Kind P asks how the file is
+// read, whatever that byte: "A" and its numbers in file order, as the records hold them, or for a refused file "R refusal place".
+// Input that is no whole case is said on standard error, and ends the run.
 mod case;
 mod numbers;
 mod readings;
@@ -28,8 +24,7 @@ fn main() {
     answer_all(&mut room, &mut text);
 }
 
-// A proved loop has to end, and nothing says that the input does. So the loop counts its turns down,
-// from a number that no run uses up.
+// Answers all cases. A proved loop has to end, and the input may not: so turns are counted down, from a number that no run uses up.
 fn answer_all(room: &mut [u8], text: &mut [u8]) {
     let mut turns = u64::MAX;
     while 0 < turns && answer(room, text) {
@@ -54,7 +49,7 @@ fn answer(room: &mut [u8], text: &mut [u8]) -> bool {
     print_front(text, end)
 }
 
-// Reads a case's file, of just the count that is lent, and answers whether it is whole.
+// Reads a case's file, which is as long as what is lent, and answers whether it is whole.
 fn take_file(file: &mut [u8]) -> bool {
     let input = read_input(b"cases", file);
     let Input::File { bytes } = input else {
@@ -75,8 +70,7 @@ fn put_answer(text: &mut [u8], file: &[u8], kind: Kind) -> usize {
     }
 }
 
-// Prints the front of the text, where a line was put, and answers whether it could be written. A line
-// that ends past the room is not whole: that is said, and nothing is printed.
+// Prints the line that was put, and answers whether it could be written. A line that ends past the room is not whole, and not printed.
 fn print_front(text: &[u8], end: usize) -> bool {
     if text.len() < end {
         complain(b"cases", b"a line is longer than there is room for");

@@ -1,7 +1,5 @@
-// The line of a period case: all numbers that are read from its file, or the line of a refused file.
-//
-// Records are put as they are read. A loop ends where one is refused, which none is in a file that is
-// accepted.
+// The line of a period case: all numbers that are read from its file, or the line of a refused file (rule 11.2).
+// Records are put as they are read. A loop ends if one is refused, which none is in a file that is accepted.
 use fields::Answer;
 use fields::Spot;
 use output::put_refusal;
@@ -28,8 +26,7 @@ struct Along {
     next: Spot,
 }
 
-// Puts the line of a period file. It is first asked whether the file is read to its end: of a refused
-// one no record is told.
+// Puts the line of a period file. It is first asked whether the file is read to its end, so of a refused one no record is shown.
 pub(crate) fn put_reading(text: &mut [u8], file: &[u8]) -> usize {
     if let Answer::Refused(refusal) = verdict(file) {
         return put_refusal(text, 0, refusal);
@@ -40,8 +37,7 @@ pub(crate) fn put_reading(text: &mut [u8], file: &[u8]) -> usize {
     }
 }
 
-// Puts the line of a file that is read to its end: its numbers in file order. The first record behind the
-// header starts at a spot.
+// Puts the line of a file that is read to its end: its numbers in file order. The first record behind the header starts at `next`.
 fn put_accepted(text: &mut [u8], file: &[u8], counts: Counts, next: Spot) -> usize {
     let end = put_header(text, counts);
     let along = put_plants(text, file, counts, Along { end, next });
@@ -59,7 +55,7 @@ fn put_header(text: &mut [u8], counts: Counts) -> usize {
     put_spaced(text, end, counts.lines)
 }
 
-// Puts the fields of all plants, from where the line is put on.
+// Puts the fields of all plants behind what is put of the line.
 fn put_plants(text: &mut [u8], file: &[u8], counts: Counts, start: Along) -> Along {
     let mut end = start.end;
     let mut at = start.next;
@@ -83,7 +79,7 @@ fn put_plant_fields(text: &mut [u8], at: usize, plant: Plant) -> usize {
     put_spaced(text, end, plant.fraction as u64)
 }
 
-// The same of all segments, each of which is read by its own number.
+// The same for all segments, each of which is read with its own number.
 fn put_segments(text: &mut [u8], file: &[u8], counts: Counts, start: Along) -> Along {
     let mut end = start.end;
     let mut at = start.next;
@@ -107,7 +103,7 @@ fn put_segment_fields(text: &mut [u8], at: usize, segment: Segment) -> usize {
     put_spaced(text, end, segment.next as u64)
 }
 
-// The same of all lines.
+// The same for all lines.
 fn put_lines(text: &mut [u8], file: &[u8], counts: Counts, start: Along) -> Along {
     let mut end = start.end;
     let mut at = start.next;

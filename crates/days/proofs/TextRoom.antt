@@ -23,7 +23,7 @@ answer-room (refusal number place) = omega (arith, line-long (ascii "R") (number
 text-room : (sheet : List ℕ) → length (answerText (meterDays sheet)) ≤ mostDaysText
 text-room sheet = answer-room (meterDays sheet)
 
--- so room that a sheet's text is put into, at its start, then holds it
+-- so the room holds a sheet's text that is put at its start
 pub held :
     (room : List ℕ) (bytes : ℕ) {end : ℕ} {room' : List ℕ} → Put (answerText (meterDays (take bytes room))) 0 room end room' →
     mostDaysText ≤ length room → Holds (printedDays (take bytes room)) end room'

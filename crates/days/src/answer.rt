@@ -1,4 +1,4 @@
-// The answer to a sheet, as text: its figures, or the line of a refused sheet (02, T-01).
+// The answer to a sheet, as text: its figures, or the line of a refused sheet (rule 12.10).
 ghost use Prim.Native.Nat.{_≤_};
 ghost use lib.ListN.{length, take};
 ghost use Rattle.output.specs.Put.{Put, Holds};
@@ -12,8 +12,7 @@ use output::put_line;
 use output::put_number;
 use output::put_refusal;
 
-// Prints the answer to the sheet in so many bytes at the start of the room. What was printed is
-// answered: all of the text, or nothing where it could not be written, and that is then said.
+// Prints the answer to the sheet in the first `bytes` bytes of the room; answers the text, or nothing if it could not be written.
 pub(crate) fn print_answer(room: &mut [u8], bytes: usize) -> &[u8]
     requires { ⌜ bytes ≤ length (now room) ⌝ }
     requires { ⌜ mostDaysText ≤ length (now room) ⌝ }
@@ -24,7 +23,7 @@ pub(crate) fn print_answer(room: &mut [u8], bytes: usize) -> &[u8]
     print(b"days", &text[..end])
 }
 
-// Puts the text of that answer into the sheet's place; the byte behind it is answered.
+// Puts that text over the sheet, and answers the byte behind it.
 fn put_answer(room: &mut [u8], bytes: usize) -> usize
     requires { ⌜ bytes ≤ length (now room) ⌝ }
     requires { ⌜ mostDaysText ≤ length (now room) ⌝ }
@@ -36,7 +35,7 @@ fn put_answer(room: &mut [u8], bytes: usize) -> usize
     }
 }
 
-// Puts the five figures, in their order, on one line: the sum, and behind it those of days.
+// Puts the line of the five figures: the sum, and behind it those of days, in the order of rules 12.2 to 12.6.
 fn put_figures(buffer: &mut [u8], figures: Figures) -> usize
     ensures { λ r. ⌜ Put (figuresText figures) 0 (now (buffer .entry)) r (now (buffer .exit)) ⌝ }
 {

@@ -1,8 +1,4 @@
-// The program for the hydrologist: it takes a meter's sheet from standard input, and prints its five
-// figures on one line, or the line of a refused sheet (02, T-01).
-//
-// A fault of reading is not the end of the sheet: it is said on standard error, with what to do next,
-// and so is output that cannot be written.
+// The program for a meter's sheet on standard input: it prints its five figures, or the line of a refused sheet (rule 12.10).
 mod answer;
 mod room;
 
@@ -11,6 +7,7 @@ use crate::room::room;
 use input::Input;
 use input::read_input;
 
+// If standard input cannot be read, `read_input` says so, and nothing is printed.
 fn main() {
     let mut room = room();
     let input = read_input(b"days", &mut room);

@@ -1,12 +1,11 @@
-// Room for a sheet, as far as its bytes can change the answer, and then for the answer's text.
+// Room for a sheet, as far as its bytes can change the answer (rule 9.2), and then for the answer's text.
 ghost use Prim.Native.Nat.{_+_};
 ghost use mathlib.Core.Path.{_≡_};
 ghost use lib.ListN.{length};
 ghost use Rattle.meter.specs.Sheets.{mostSheetBytes};
 use meter::Sheet;
 
-// One byte more than the longest sheet has: it shows that a sheet goes on, and no byte after it can
-// change the answer (`any-sheet`, proofs/AnyFile.antt). The text of every answer is much shorter.
+// One byte more than the longest sheet: no byte behind it changes the answer (rule 9.2). The text of every answer is shorter.
 const ROOM: usize = Sheet::BYTES + 1;
 
 // Zeros, with room for what is read and for what is printed.

@@ -1,5 +1,5 @@
 -- What is carried along the reading of a file, from field to field: what each field is and where, what is known in the end, and the place and
--- the byte there. Not the numbers that were taken, nor the tests that are left: these are told by the whole of a reader.
+-- the byte there. Not the numbers that were taken, nor the tests that are left: laws on a whole reader say these.
 use Prim.Native.Nat.{ℕ, zero, suc, _+_, _^_, _≤_, _<_}
 use mathlib.Core.Path.{_≡_, refl, ap}
 use mathlib.Core.Bool.{Bool, true}
@@ -21,7 +21,7 @@ use Rattle.fields.specs.Lists.{Each}
 use Rattle.fields.proofs.FieldByField.{Comes, done as all-read, goes, fails, stops, goes-over}
 
 module _ (file : List ℕ) (May : (place at : ℕ) → Reason → Type 0) {A : Type 0} (P : A → (place at : ℕ) → Type 0) where
-  -- From a number's place and its first byte's on, a reader may need each number that it comes to, there and with its reason; and what it
+  -- From a number's place and its first byte on, a reader may need each number that it takes, there and with its reason; and what it
   -- gives in the end has a property, with the place and the byte after it.
   pub data Along : Reader A → (place at : ℕ) → Type 0 where
     done : {what : A} {place at : ℕ} → P what place at → Along (return what) place at
@@ -30,20 +30,20 @@ module _ (file : List ℕ) (May : (place at : ℕ) → Reason → Type 0) {A : T
         ((value next : ℕ) → readAt file at ≡ oneNumber value next → allowed value ≡ true → Along (then value) (suc place) next) →
         Along (needs reason allowed then) place at
 
-  -- What reading comes to then: that property; or a refusal at a field that it may need, or for a fault.
+  -- What reading then gives: that property; or a refusal at a field that it may need, or for a fault.
   pub data Came : Read A → Type 0 where
     came : {what : A} {place at : ℕ} → P what place at → Came (read what place (run (drop at file)))
     not-allowed : {reason : Reason} {place at : ℕ} → May place at reason → Came (refused (numberOf reason) place)
     has-fault : {fault place : ℕ} → fault ≤ tooLarge → Came (refused fault place)
 
-  -- And what the whole file does: all is read, and no bytes are left or some are; or that refusal.
+  -- And what the whole file gives: all is read, and no bytes are left or some are; or that refusal.
   pub data Ended : Read A → Type 0 where
     none-left : {what : A} {place at : ℕ} → P what place at → Ended (read what place over)
     bytes-left : {what : A} {place at : ℕ} → P what place at → Ended (refused (numberOf BytesAfter) place)
     not-read : {refusal place : ℕ} → Came (refused refusal place) → Ended (refused refusal place)
 
 module _ {file : List ℕ} {May : (place at : ℕ) → Reason → Type 0} where
-  -- one field, whose values all take at most so many bytes
+  -- one field, whose values all take at most a given number of bytes
   pub one-field :
       {A : Type 0} {P : A → (place at : ℕ) → Type 0} {reason : Reason} {allowed : ℕ → Bool}
       {then : ℕ → Reader A} {place at : ℕ} (bytes : ℕ) →
@@ -73,7 +73,7 @@ module _ {file : List ℕ} {May : (place at : ℕ) → Reason → Type 0} where
   along-on on then (needed {reason} {place} {at} may more) =
       needed (on place at reason may) (λ value next is passed. along-on on then (more value next is passed))
 
-  -- so many records, each of which has its property, with what holds of the place and the byte between them
+  -- a count of records, each of which has its property, with what holds of the place and the byte between them
   module _
       {A : Type 0} (one : ℕ → Reader A) (P : ℕ → A → Type 0) (Between : (index place at : ℕ) → Type 0) (count : ℕ)
       (along :
@@ -97,7 +97,7 @@ module _ {file : List ℕ} {May : (place at : ℕ) → Reason → Type 0} where
           Along file May (λ all next to. (length all ≡ count) × Each P 1 all × Between count next to) (each one 1 count) place at
       so-many place at start = each-from 0 count place at (omega arith) start
 
-  -- what reading comes to
+  -- what reading gives
   pub comes-to :
       {A : Type 0} {P : A → (place at : ℕ) → Type 0} {reader : Reader A} {place at : ℕ} → Along file May P reader place at →
       Came file May P (reads reader place (run (drop at file)))
@@ -111,7 +111,7 @@ module _ {file : List ℕ} {May : (place at : ℕ) → Reason → Type 0} where
       by-way (needed may more) (fails e h) = not-allowed may
       by-way (needed may more) (stops {at} {k} e) = has-fault (faults file at k e .1)
 
-  -- and what the whole file does
+  -- and what the whole file gives
   pub at-end : {A : Type 0} {P : A → (place at : ℕ) → Type 0} {outcome : Read A} → Came file May P outcome → Ended file May P (ended outcome)
   at-end {P} (came {what} {place} {at} p) = by-run (run (drop at file))
     where

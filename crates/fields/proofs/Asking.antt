@@ -1,4 +1,4 @@
--- What a reader asks of a file, number by number: its tests at their places, and what stands there if none of them fails; over any form of answer.
+-- What a reader asks of a file, number by number: its tests at their places, and what is there if none of them fails; over any form of answer.
 use Prim.Native.Nat.{ℕ, zero, suc, _+_, _≤_}
 use mathlib.Core.Path.{_≡_, refl, ap, _∙_}
 use mathlib.Core.Bool.{Bool, true, false, not, cond}
@@ -23,18 +23,18 @@ use Rattle.fields.proofs.FieldByField.{Comes, comes, done as all-read, 
 use Rattle.fields.proofs.EndOfFile.{more-left, none-left}
 
 module _ {Answer : Type 0} (refuse : (number place : ℕ) → Answer) (file : List ℕ) where
-  -- ---- what a reader asks of the file from number k on: its tests one after another, before those that are left when it ends;
+  -- ---- what a reader asks of the file from number k on: its tests one after another, before those that come behind it;
   -- what it gives if none of its own fails; and the number after its last
   pub data Asks {A : Type 0} : Reader A → (k : ℕ) → List Test → A → (end : ℕ) → List Test → Type 0 where
-    -- it has all that it wants
+    -- it is done
     done : {what : A} {k : ℕ} {left : List Test} → Asks (return what) k left what k left
-    -- it needs a number: after the tests for 1, 2 and 3, the field's own decides whether the others are come to
+    -- it needs a number: after the tests for 1, 2 and 3, that of the field decides whether the others follow
     needed :
         {reason : Reason} {allowed : ℕ → Bool} {then : ℕ → Reader A} {k next end : ℕ} {own tests left : List Test} {what : A} → suc k ≡ next →
         ((answer : Answer) → testedBy refuse own answer ≡ cond (allowed (valueAt file k)) (testedBy refuse tests answer) (refuse (numberOf reason) k)) →
         Asks (then (valueAt file k)) next tests what end left → Asks (needs reason allowed then) k (numberTests file k ++ own) what end left
 
-  -- what it finds: its own tests pass, and it comes to what stands there; or one fails, and it refuses with that one's number and place
+  -- what it finds: its own tests pass, and it gives what is there; or one fails, and it refuses with that one's number and place
   pub data Found {A : Type 0} (reader : Reader A) (k : ℕ) (tests : List Test) (what : A) (end : ℕ) (left : List Test) : Type 0 where
     passes :
         Comes file reader k (startOf file k) (read what end (run (drop (startOf file end) file))) →
@@ -43,7 +43,7 @@ module _ {Answer : Type 0} (refuse : (number place : ℕ) → Answer) (file : Li
         {number place : ℕ} → Comes file reader k (startOf file k) (refused number place) →
         ((answer : Answer) → testedBy refuse tests answer ≡ refuse number place) → Found reader k tests what end left
 
-  -- ---- the whole file against its tests, of which the last is that nothing follows: all pass, and it holds what stands at its places; or
+  -- ---- the whole file against its tests, of which the last is that nothing follows: all pass, and it has what is at its places; or
   -- one fails, and it is refused for that one
   pub data Tried {A : Type 0} (reader : Reader A) (tests : List Test) (what : A) (count : ℕ) (left : List Test) : Type 0 where
     all-pass :
@@ -129,7 +129,7 @@ module _ {Answer : Type 0} {refuse : (number place : ℕ) → Answer} {file : Li
   one-then (done {what}) later = later what refl
   one-then (needed e own-says more) later = needed e own-says (one-then more later)
 
-  -- ---- so many records, of which each starts where the one before ends
+  -- ---- a count of records, of which each starts where the one before ends
   module _
       {A : Type 0} (one : ℕ → Reader A) (tests : ℕ → List Test) {place : ℕ → ℕ} {at : ℕ → A} {left : List Test}
       (asks : (index : ℕ) (left : List Test) → Asks refuse file (one (suc index)) (place index) (tests index ++ left) (at index) (place (suc index)) left)
@@ -162,7 +162,7 @@ module _ {Answer : Type 0} {refuse : (number place : ℕ) → Answer} {file : Li
       after : ℕ
       after = startOf file count
 
-      -- what reading the file from its first number on comes to
+      -- what reading the file from its first number on gives
       from-first : {outcome : Read A} → Comes file reader 0 (startOf file 0) outcome → reads reader 0 (run file) ≡ outcome
       from-first come = comes file (rw (first-start file) at come)
 
@@ -170,7 +170,7 @@ module _ {Answer : Type 0} {refuse : (number place : ℕ) → Answer} {file : Li
       by-found (fails come says) = one-fails (ap ended (from-first come)) says
       by-found (passes come says) = by-end (decLe (length file) after)
         where
-          -- 9, where bytes are left after the last number
+          -- 9, if bytes are left behind the last number
           by-end : Dec (length file ≤ after) → Tried refuse file reader tests what count left
           by-end (yes h) =
               all-pass (ap ended (from-first come) ∙ none-left what count file after h) (λ answer. says answer ∙ rw (le-ltb after (length file) h) refl)

@@ -23,7 +23,7 @@ unfoldable pub Gives : {A : Type 0} → (List ℕ → A → Type 0) → Reader A
 Gives P (return what) = P [] what
 Gives P (needs reason allowed then) = (value : ℕ) → value ≤ largest → allowed value ≡ true → Gives (λ more. P (value ∷ more)) (then value)
 
--- so have the numbers that it consumes of a file and what reading comes to
+-- so have the numbers that it consumes of a file and what reading gives
 pub consumed-has :
     {A : Type 0} {file : List ℕ} (P : List ℕ → A → Type 0) {reader : Reader A} {place at end : ℕ} {rest : Run} {what : A} → Gives P reader →
     Comes file reader place at (read what end rest) → P (consumes reader (run (drop at file))) what
@@ -75,7 +75,7 @@ gives-then P Q (needs reason allowed more) then given rest =
     λ value small passed.
     gives-then (λ all. P (value ∷ all)) (λ all. Q (value ∷ all)) (more value) then (given value small passed) (λ numbers. rest (value ∷ numbers))
 
--- so many records, each of which has its property
+-- a count of records, each of which has its property
 pub gives-each :
     {A : Type 0} (P : ℕ → A → Type 0) (one : ℕ → Reader A) → ((own : ℕ) → Gives (λ numbers. P own) (one own)) →
     (own count : ℕ) → Gives (λ numbers all. (length all ≡ count) × Each P own all) (each one own count)
@@ -90,7 +90,7 @@ gives-each P one has own (suc count) =
 abbrev pub Consumes : {A : Type 0} → (A → List ℕ) → Reader A → Type 0
 Consumes numbers reader = Gives (λ all what. all ≡ numbers what) reader
 
--- of so many records they are those of each
+-- of a count of records they are those of each
 abbrev pub Counted : {A : Type 0} → (A → List ℕ) → ℕ → List ℕ → List A → Type 0
 Counted numbers count all what = (all ≡ inTurn numbers what) × (length what ≡ count)
 

@@ -23,7 +23,7 @@ use Rattle.fields.specs.Reaching.{readTo, refusedBy}
 use Rattle.fields.proofs.Runs.{run-over, run-on}
 
 -- ---- one reader after another
--- what the first came to decides: from there the second goes on, or it is refused
+-- what the first gives decides: from there the second goes on, or it is refused
 abbrev pub next : {A B : Type 0} → Read A → (A → ℕ → Run → Read B) → Read B
 next (read what place rest) then = then what place rest
 next (refused refusal place) then = refused refusal place

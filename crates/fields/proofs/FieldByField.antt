@@ -12,7 +12,7 @@ use Rattle.fields.specs.Run.{Run, run}
 use Rattle.fields.specs.Readers.{Reader, return, needs, Read, read, refused, reads}
 use Rattle.fields.proofs.Runs.{Faulty, ended, faulty, number-at, fault-at}
 
--- What a reader comes to that starts at a number's place and at its first byte's.
+-- What a reader gives that starts at a number's place and at its first byte.
 pub data Comes {A : Type 0} (file : List ℕ) : Reader A → ℕ → ℕ → Read A → Type 0 where
   -- all is read
   done : {what : A} {place at : ℕ} → Comes file (return what) place at (read what place (run (drop at file)))
@@ -25,12 +25,12 @@ pub data Comes {A : Type 0} (file : List ℕ) : Reader A → ℕ → ℕ → Rea
   fails :
       {reason : Reason} {allowed : ℕ → Bool} {then : ℕ → Reader A} {place at : ℕ} {v n : ℕ} →
       readAt file at ≡ oneNumber v n → allowed v ≡ false → Comes file (needs reason allowed then) place at (refused (numberOf reason) place)
-  -- a fault where the number should be
+  -- a fault in place of the number
   stops :
       {reason : Reason} {allowed : ℕ → Bool} {then : ℕ → Reader A} {place at : ℕ} {k : ℕ} →
       readAt file at ≡ oneFault k → Comes file (needs reason allowed then) place at (refused k place)
 
--- and that is what reading comes to there
+-- and that is what reading gives there
 pub comes :
     {A : Type 0} (file : List ℕ) {reader : Reader A} {place at : ℕ} {outcome : Read A} →
     Comes file reader place at outcome → reads reader place (run (drop at file)) ≡ outcome
@@ -68,7 +68,7 @@ goes-over {A} file (needs reason allowed then) place at = by-number (readAt file
     by-number (oneFault k) e later = so (stops e)
     by-number (oneNumber v n) e later = by-test v n (allowed v) e refl (later v n)
 
--- ---- one field at a time: what a reader comes to that needs a number at a byte
+-- ---- one field at a time: what a reader gives that needs a number at a byte
 module _ {A : Type 0} (file : List ℕ) (reason : Reason) (allowed : ℕ → Bool) (then : ℕ → Reader A) (place at : ℕ) where
   -- a number that is allowed: the rest decides
   pub field-passed :

@@ -1,4 +1,4 @@
--- A file and its front, which is longer than the longest file of its kind: reading comes to the same in both.
+-- A file and its front, which is longer than the longest file of its kind: reading gives the same for both.
 use Prim.Native.Nat.{ℕ, _+_, _≤_, _<_}
 use mathlib.Core.Path.{_≡_, refl, sym, ap, _∙_}
 use mathlib.Core.List.{List}
@@ -22,7 +22,7 @@ module _ (file : List ℕ) (most n : ℕ) (longer : most < n) where
   abbrev front : List ℕ
   front = take n file
 
-  -- where there is room for the most groups, the same number stands in both
+  -- if there is room for the most groups, the same number is in both
   same-number : (at : ℕ) → at + mostGroups ≤ most → readAt front at ≡ readAt file at
   same-number at enough =
       sym (only-five-bytes front at)
@@ -61,7 +61,7 @@ module _ (file : List ℕ) (most n : ℕ) (longer : most < n) where
       by-way (needed {reason} {place} {at} may more) (stops e) =
           rw (comes front (stops (same-number at (room place at reason may) ∙ e))) both-refused
 
-      -- comes to the same in both
+      -- gives the same for both
       pub alike : {reader : Reader A} → Along file May P reader 0 0 → Same (reads reader 0 (run front)) (reads reader 0 (run file))
       alike {reader} along = by-way along (goes-over file reader 0 0)
 

@@ -21,7 +21,7 @@ use Rattle.fields.proofs.Takes.{ValueThere, FaultThere}
 use Rattle.fields.proofs.Reaching.{spot-passed, spot-wrong, spot-faulty}
 
 module _ {A : Type 0} where
-  -- ---- a record: a reader that wants a number for each of these reasons, and no more, whatever the numbers are
+  -- ---- a record: a reader that needs a number for each of these reasons, and no more, whatever the numbers are
   unfoldable pub Wants : List Reason → Reader A → Type 0
   Wants [] (return what) = Unit {0}
   Wants [] (needs reason allowed then) = ⊥
@@ -34,7 +34,7 @@ module _ {A : Type 0} where
   Allowed (return what) (value ∷ values) = ⊥
   Allowed (needs reason allowed then) (value ∷ values) = (value ≤ largest) × (allowed value ≡ true) × Allowed (then value) values
 
-  -- ---- a reader that has taken fewer numbers than it wants needs one more, with the reason of that field
+  -- ---- a reader that has taken too few numbers needs one more, with the reason of that field
   data Needing : Reader A → Reason → Type 0 where
     needing : {reason : Reason} {allowed : ℕ → Bool} {then : ℕ → Reader A} → Needing (needs reason allowed then) reason
 
@@ -70,7 +70,7 @@ module _ {A : Type 0} where
   allowed-one (needs reason allowed then) (first ∷ taken) value need before small passed =
       (before .0, before .1, allowed-one (then first) taken value need (before .2) small passed)
 
-  -- ---- the loop: so far f of the numbers are taken, and the next one stands at a spot
+  -- ---- the loop: so far f of the numbers are taken, and the next one is at a spot
   module _ (reader : Reader A) (file : List ℕ) (start : Spot) (wanted : ℕ) where
     pub record Numbers (values : List ℕ) (at : Spot) (f : ℕ) : Type 0 where
       pub sized : length values ≡ wanted
@@ -86,7 +86,7 @@ module _ {A : Type 0} where
   module _
       {reader : Reader A} {file : List ℕ} {start : Spot} {wanted : ℕ} {values : List ℕ} {at : Spot} {f : ℕ}
       (so-far : Numbers reader file start wanted values at f) where
-    -- all are taken, and nothing else is wanted: what was read
+    -- all are taken, and nothing else is needed: what was read
     pub all-taken : (what : A) → wanted ≤ f → onward reader values ≡ return what → readsFrom reader file start ≡ whole what at
     unfolding readsFrom
     all-taken what all is =

@@ -1,4 +1,4 @@
--- No two outcomes meet a promise of this crate: what an answer says in 01's terms determines the answer.
+-- No two outcomes meet a promise of this crate: what an answer says determines the answer.
 use Prim.Native.Nat.{ℕ, zero, suc, _<_}
 use mathlib.Core.Path.{_≡_, refl, sym, ap, ap₂, _∙_}
 use mathlib.Core.Bool.{true≢false}
@@ -13,9 +13,9 @@ use Rattle.fields.specs.declared.reason.Reason.the-variants.{Ends, NotSh
 use Rattle.fields.specs.declared.spot.Spot.{Spot}
 use Rattle.fields.specs.declared.taking.Taken.{Taken}
 use Rattle.fields.specs.declared.taking.Taken.the-variants as Taken
-use Rattle.fields.specs.Reasons.{numberOf}
-use Rattle.fields.specs.Answers.{refusedFor, said, refusalNumber, refusalPlace}
-use Rattle.fields.specs.Spots.{firstSpot, refusalAt, took, takeAt, endAt}
+use Rattle.fields.specs.Reasons.{numberOf, ReasonNumberPromise}
+use Rattle.fields.specs.Answers.{said, RefusedPromise, AnswerRefusalPromise, AnswerPlacePromise}
+use Rattle.fields.specs.Spots.{took, SpotFirstPromise, SpotRefusalPromise, TakePromise, NothingAfterPromise}
 
 -- ---- each number has one reason
 -- the reasons by their numbers, from 0, which none has
@@ -75,28 +75,28 @@ took-once (Taken.Refused a) (Taken.Refused b) e = ap Taken.Refused (refusal-once
 
 -- ---- the public functions
 -- `take`: two answers that meet its promise, of one file at one spot, are the same
-pub one-taken : (file : List ℕ) (at : Spot) (r s : Taken) → took r ≡ takeAt file at → took s ≡ takeAt file at → r ≡ s
+pub one-taken : (file : List ℕ) (at : Spot) (r s : Taken) → TakePromise file at r → TakePromise file at s → r ≡ s
 one-taken file at r s p q = took-once r s (p ∙ sym q)
 
 -- `nothing_after`: so are two of its answers
-pub one-end : (file : List ℕ) (at : Spot) (r s : Answer) → said r ≡ endAt file at → said s ≡ endAt file at → r ≡ s
+pub one-end : (file : List ℕ) (at : Spot) (r s : Answer) → NothingAfterPromise file at r → NothingAfterPromise file at s → r ≡ s
 one-end file at r s p q = said-once r s (p ∙ sym q)
 
 -- `Reason::number`, `Answer::refused`, `Answer::refusal`, `Answer::place`, `Spot::first` and `Spot::refusal`: their promises give the result itself
-pub one-number : (reason : Reason) (r s : ℕ) → r ≡ numberOf reason → s ≡ numberOf reason → r ≡ s
+pub one-number : (reason : Reason) (r s : ℕ) → ReasonNumberPromise reason r → ReasonNumberPromise reason s → r ≡ s
 one-number reason r s p q = p ∙ sym q
 
-pub one-refused : (reason : Reason) (place : ℕ) (r s : Answer) → r ≡ refusedFor reason place → s ≡ refusedFor reason place → r ≡ s
+pub one-refused : (reason : Reason) (place : ℕ) (r s : Answer) → RefusedPromise reason place r → RefusedPromise reason place s → r ≡ s
 one-refused reason place r s p q = p ∙ sym q
 
-pub one-refusal : (answer : Answer) (r s : ℕ) → r ≡ refusalNumber (said answer) → s ≡ refusalNumber (said answer) → r ≡ s
+pub one-refusal : (answer : Answer) (r s : ℕ) → AnswerRefusalPromise answer r → AnswerRefusalPromise answer s → r ≡ s
 one-refusal answer r s p q = p ∙ sym q
 
-pub one-place : (answer : Answer) (r s : ℕ) → r ≡ refusalPlace (said answer) → s ≡ refusalPlace (said answer) → r ≡ s
+pub one-place : (answer : Answer) (r s : ℕ) → AnswerPlacePromise answer r → AnswerPlacePromise answer s → r ≡ s
 one-place answer r s p q = p ∙ sym q
 
-pub one-first : (r s : Spot) → r ≡ firstSpot → s ≡ firstSpot → r ≡ s
+pub one-first : (r s : Spot) → SpotFirstPromise r → SpotFirstPromise s → r ≡ s
 one-first r s p q = p ∙ sym q
 
-pub one-refusal-at : (at : Spot) (reason : Reason) (r s : Refusal) → r ≡ refusalAt at reason → s ≡ refusalAt at reason → r ≡ s
+pub one-refusal-at : (at : Spot) (reason : Reason) (r s : Refusal) → SpotRefusalPromise at reason r → SpotRefusalPromise at reason s → r ≡ s
 one-refusal-at at reason r s p q = p ∙ sym q

@@ -1,4 +1,4 @@
--- What the test of a range comes to, from the facts that decide it, and what one that passed says.
+-- What the test of a range gives, by the facts that decide it, and what one that passed says.
 use Prim.Native.Nat.{ℕ, _≤_, _<_}
 use mathlib.Core.Path.{_≡_, refl, sym}
 use mathlib.Core.Bool.{Bool, true, false, _&&_, _||_, and-false, true≢false}

@@ -21,7 +21,7 @@ use Rattle.fields.specs.Reaching.{Reach, whole, stopped, goingOn, readsF
 use Rattle.fields.proofs.FieldByField.{field-passed, field-wrong, field-faulty}
 use Rattle.fields.proofs.Takes.{one-place-on, ValueThere, FaultThere}
 
--- ---- one field: what a reader comes to that needs a number at a spot
+-- ---- one field: what a reader gives that needs a number at a spot
 module _ {A : Type 0} (file : List ℕ) (reason : Reason) (allowed : ℕ → Bool) (then : ℕ → Reader A) (at : Spot) where
   -- what was taken there decides
   by-taken : Take → Reach A
@@ -52,7 +52,7 @@ module _ {A : Type 0} (file : List ℕ) (reason : Reason) (allowed : ℕ → Boo
       spot-fault (numberOf (refusal .reason)) (there .stands) ∙ ap (stopped (numberOf (refusal .reason))) (sym (there .place-is))
 
 -- ---- one reader after another
--- what the first came to decides: from there the second goes on, or it is stopped
+-- what the first gives decides: from there the second goes on, or it is stopped
 abbrev pub reached : {A B : Type 0} → Reach A → (A → Spot → Reach B) → Reach B
 reached (whole what next) then = then what next
 reached (stopped number place) then = stopped number place
@@ -104,7 +104,7 @@ first-counted file = record { numbers = omega arith; inside = omega arith }
 abbrev pub readsAt : {A : Type 0} → Reader A → List ℕ → Spot → Read A
 readsAt reader file at = reads reader (at .place) (run (drop (at .byte) file))
 
--- comes to what it comes to from that spot on
+-- gives what it gives from that spot on
 pub reads-as :
     {A : Type 0} (file : List ℕ) → length file < 2 ^ 64 → (reader : Reader A) (at : Spot) → Counted file at →
     readsAt reader file at ≡ asRead file (readsFrom reader file at)

@@ -12,7 +12,7 @@ use Rattle.number.specs.Reading.Found.{number as oneNumber, fault as oneFault}
 use Rattle.number.proofs.Laws.{at-byte, nothing-left, size}
 use Rattle.fields.specs.Run.{Run, over, fault, number, starting, runOf, run}
 
--- ---- a bound on the count of numbers does not matter where it is no less than the count of bytes
+-- ---- a bound on the count of numbers does not matter if it is no less than the count of bytes
 enough : (n m : ℕ) (bytes : List ℕ) → length bytes ≤ n → length bytes ≤ m → runOf n bytes ≡ runOf m bytes
 unfolding runOf
 enough zero zero bytes p q = refl
@@ -44,7 +44,7 @@ run-number (b ∷ bytes) v n e =
     ap (λ (a : Found). starting a (λ (next : ℕ). runOf (length bytes) (drop next (b ∷ bytes)))) e
     ∙ ap (number v) (enough (length bytes) (length (drop n (b ∷ bytes))) (drop n (b ∷ bytes)) (omega (arith, s .one)) (omega arith))
 
--- ---- where the bytes start with a fault, the run does, or it is over and the fault is that the file ends
+-- ---- if the bytes start with a fault, so does the run, or it is over and the fault is that the file ends
 pub data Faulty : Run → ℕ → Type 0 where
   ended : Faulty over ends
   faulty : {k : ℕ} → Faulty (fault k) k
@@ -54,7 +54,7 @@ unfolding run runOf
 run-fault [] k e = let is : ends ≡ k = cc nothing-left in rw is at ended
 run-fault (b ∷ bytes) k e = rw e faulty
 
--- ---- a run is over where no bytes are left, and nowhere else
+-- ---- a run is over exactly if no bytes are left
 pub run-over : run [] ≡ over
 unfolding run runOf
 run-over = refl

@@ -1,4 +1,4 @@
--- Records of one kind, so many of them, read one after another. One law for each way through a turn of the loop, over any kind of record.
+-- Records of one kind, a count of them, read one after another. One law for each way through a turn of the loop, over any kind of record.
 use Prim.Native.Nat.{ℕ, suc, _+_, _-_, _≤_, _<_}
 use mathlib.Core.Path.{_≡_, refl, sym, ap, _∙_}
 use mathlib.Core.List.{List, [], _∷_, _++_, append-assoc, append-nil}
@@ -26,7 +26,7 @@ module _ {A : Type 0} where
   behind-none (whole records next) = refl
   behind-none (stopped number place) = refl
 
-  -- ---- the first of so many records is read, and the others behind it; or it is refused
+  -- ---- the first of a count of records is read, and the others behind it; or it is refused
   module _ (one : ℕ → Reader A) (own count : ℕ) (file : List ℕ) (at : Spot) where
     abbrev others : A → Reader (List A)
     others what = each one (suc own) count >>= λ (rest : List A). return (what ∷ rest)
@@ -71,7 +71,7 @@ module _ {A : Type 0} where
   module _
       {one : ℕ → Reader A} {file : List ℕ} {start : Spot} {count : ℕ} {done : List A} {at : Spot} {p : ℕ}
       (so-far : Passed one file start count done at p) where
-    -- a record is left to read: the outcome of all hangs on it
+    -- a record is left to read: the outcome of all depends on it
     one-left : p < count → readsFrom (each one 1 count) file start ≡ behind done (readsFrom (each one (suc p) (suc (count - (p + 1)))) file at)
     one-left more =
         let rest : count - p ≡ suc (count - (p + 1)) = omega arith in

@@ -6,7 +6,7 @@ use native.Mathlib.Omega.{arith}
 use lib.ListN.{length, getD}
 use Rattle.fields.specs.Lists.{sum}
 
--- where no number is over a bound, their sum is not over the bound times their count
+-- if no number is over a bound, their sum is not over the bound times their count
 pub sum-most : (bound : ℕ) (numbers : List ℕ) → ((i : ℕ) → getD numbers i 0 ≤ bound) → sum numbers ≤ length numbers * bound
 unfolding sum
 sum-most bound [] h = omega arith

@@ -14,11 +14,11 @@ use Rattle.fields.specs.declared.taking.Taken.the-variants.{Value, Refus
 use Rattle.fields.specs.Reasons.{numberOf}
 use Rattle.fields.specs.Spots.{placeAfter, taking, takeAt, took}
 
--- the place after another is one more, where a machine can count it
+-- the place after another is one more, if a machine can count it
 pub one-place-on : (place : ℕ) → place + 1 < 2 ^ 64 → placeAfter place ≡ suc place
 one-place-on place small = mod-eq-of-lt small ∙ add-one place
 
--- a value that was taken stands there, and the next spot is behind it
+-- a value that was taken is there, and the next spot is behind it
 pub record ValueThere (file : List ℕ) (at : Spot) (v : ℕ) (next : Spot) : Type 0 where
   pub stands : readAt file (at .byte) ≡ number v (next .byte)
   pub place-on : next .place ≡ placeAfter (at .place)
@@ -33,7 +33,7 @@ value-there file at taken v next e is = by-number (readAt file (at .byte)) refl 
         record { stands = here ∙ rw (value-is, next-is) refl; place-on = ap (λ (s : Spot). s .place) next-is }
     by-number (fault k) here same = absurd (true≢false (cc))
 
--- a refusal is the fault that stands there
+-- a refusal is the fault that is there
 pub record FaultThere (file : List ℕ) (at : Spot) (refusal : Refusal) : Type 0 where
   pub stands : readAt file (at .byte) ≡ fault (numberOf (refusal .reason))
   pub place-is : refusal .place ≡ at .place

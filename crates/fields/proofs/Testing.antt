@@ -1,4 +1,4 @@
--- Tests in their order, over any form of answer: the first that fails refuses, and where none fails the answer stands.
+-- Tests in their order, over any form of answer: the first that fails refuses, and if none fails the answer is the given one.
 use Prim.Native.Nat.{ℕ, zero, suc, _<_}
 use mathlib.Core.Path.{_≡_, refl, ap}
 use mathlib.Core.Bool.{Bool, true, false, cond}
@@ -16,13 +16,13 @@ module _ {A : Type 0} (refuse : (number place : ℕ) → A) where
   first-answers answer (here h) = rw h
   first-answers answer (later h more) = rw h (first-answers answer more)
 
-  -- ---- where none fails, the answer stands
+  -- ---- if none fails, the answer is the given one
   pub none-answers : {tests : List Test} (answer : A) → NoneFails tests → testedBy refuse tests answer ≡ answer
   unfolding testedBy
   none-answers answer end = refl
   none-answers answer (holds h more) = rw h (none-answers answer more)
 
-  -- and where what comes of it is no refusal, none fails
+  -- and if the outcome is no refusal, none fails
   pub none-fails :
       (tests : List Test) (answer other : A) → ((number place : ℕ) → refuse number place ≡ other → ⊥) → testedBy refuse tests answer ≡ other →
       NoneFails tests
@@ -36,7 +36,7 @@ module _ {A : Type 0} (refuse : (number place : ℕ) → A) where
       by-test true h e again = absurd (no-refusal _ _ e)
       by-test false h e again = holds h (again e)
 
-  -- ---- where what comes of it is a refusal that the answer is not, the test that fails is there: a refusal tells its number and place
+  -- ---- if the outcome is a refusal, and the given answer is not that one, a test fails that has its number and place
   pub first-fails :
       ((n p m q : ℕ) → refuse n p ≡ refuse m q → (n ≡ m) × (p ≡ q)) → (tests : List Test) (number place : ℕ) (answer : A) →
       (answer ≡ refuse number place → ⊥) → testedBy refuse tests answer ≡ refuse number place → FirstFails tests number place
@@ -61,18 +61,18 @@ pub first-numbered : {tests : List Test} {number place : ℕ} → FirstFails tes
 first-numbered (here {test} h) = numbered-above (test .reason)
 first-numbered (later h more) = first-numbered more
 
--- ---- where none of all tests fails, none of the first ones and none of those behind them does
+-- ---- if none of all tests fails, none of the first ones and none of those behind them does
 pub none-of-both : (tests rest : List Test) → NoneFails (tests ++ rest) → NoneFails tests × NoneFails rest
 none-of-both [] rest none = (end, none)
 none-of-both (test ∷ tests) rest (holds h more) = let both = none-of-both tests rest more in (holds h (both .0), both .1)
 
--- ---- of so many records there are as many
+-- ---- a list of a count of records has that length
 pub listed-length : {A : Type 0} (at : ℕ → A) (from count : ℕ) → length (listed at from count) ≡ count
 unfolding listed
 listed-length at from zero = refl
 listed-length at from (suc count) = ap suc (listed-length at (suc from) count)
 
--- and what holds at each index, and of what stands behind the last, holds of each of them
+-- and what holds at each index, and of what is behind the last, holds of each of them
 pub listed-each :
     {A : Type 0} (P : A → Type 0) (at : ℕ → A) (none : A) → P none → ((index : ℕ) → P (at index)) → (from count i : ℕ) → P (getD (listed at from count) i none)
 unfolding listed

@@ -3,14 +3,14 @@
 -- the reasons to refuse, and what an answer says
 pub mod Reasons
 pub mod Answers
--- the file: a run of numbers, read front to back, field by field
+-- the file: a run of numbers, read from its front, field by field
 pub mod Ranges
 pub mod Run
 pub mod Readers
 pub mod Files
 -- its tests, each at its place
 pub mod Tests
--- a spot in it, what is taken there, and what a reader comes to from there on
+-- a spot in it, what is taken there, and what a reader gives from there on
 pub mod Spots
 pub mod Reaching
 -- lists of records

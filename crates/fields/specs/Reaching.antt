@@ -1,4 +1,4 @@
--- What a reader comes to from a spot on, by what is taken at each spot: so it is said for every spot of every file.
+-- What a reader gives from a spot on, by what is taken at each spot: said for every spot of every file.
 use Prim.Native.Nat.{ℕ}
 use mathlib.Core.Bool.{cond}
 use mathlib.Core.List.{List}
@@ -16,30 +16,31 @@ pub data Reach (A : Type 0) : Type 0 where
   whole : (what : A) (next : Spot) → Reach A
   stopped : (number place : ℕ) → Reach A
 
--- What follows what was taken: by a value it goes on, and a fault stops it.
+-- What comes behind what was taken: with a value reading goes on, a fault stops it.
 abbrev pub goingOn : {A : Type 0} → Take → (ℕ → Spot → Reach A) → Reach A
 goingOn (value v next) then = then v next
 goingOn (noValue k place) then = stopped k place
 
--- A reader put to a file from a spot on. Places are counted in 64 bits, as they are taken.
+-- A reader put to a file from a spot on: a number's fault, then its field, then the next (rules 8.2 and 8.3). Places wrap at 64 bits.
 unfoldable pub readsFrom : {A : Type 0} → Reader A → List ℕ → Spot → Reach A
 readsFrom (return what) file at = whole what at
 readsFrom (needs reason allowed then) file at =
     goingOn (takeAt file at) (λ (v : ℕ) (next : Spot). cond (allowed v) (readsFrom (then v) file next) (stopped (numberOf reason) (at .place)))
 
--- What a refusal comes to.
+-- A refusal of the code, in these terms.
 abbrev pub stoppedBy : {A : Type 0} → Refusal → Reach A
 stoppedBy refusal = stopped (numberOf (refusal .reason)) (refusal .place)
 
 -- ---- the same as a reading of the file's run
--- what was read, up to a spot; and a refusal
+-- What was read up to a spot, with the run from there.
 abbrev pub readTo : {A : Type 0} → List ℕ → A → Spot → Read A
 readTo file what next = read what (next .place) (run (drop (next .byte) file))
 
+-- A refusal.
 abbrev pub refusedBy : {A : Type 0} → Refusal → Read A
 refusedBy refusal = refused (numberOf (refusal .reason)) (refusal .place)
 
--- either
+-- Either of them.
 abbrev pub asRead : {A : Type 0} → List ℕ → Reach A → Read A
 asRead file (whole what next) = readTo file what next
 asRead file (stopped number place) = refused number place

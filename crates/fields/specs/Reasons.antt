@@ -1,9 +1,11 @@
--- The number of each reason, as 01's table of refusals gives it. The first three are the number layer's.
+-- The reasons to refuse, by their numbers.
 use Prim.Native.Nat.{ℕ}
+use mathlib.Core.Path.{_≡_}
 use Rattle.number.specs.Reading.{ends, notShortest, tooLarge}
 use Rattle.fields.specs.declared.reason.Reason.{Reason}
 use Rattle.fields.specs.declared.reason.Reason.the-variants.{Ends, NotShortest, TooLarge, WrongEdition, WrongCount, WrongPlant, WrongSegment, WrongLine, BytesAfter, TooManyGrams, InflowTooLarge, OutflowOverInflow, EmissionWithoutInflow, PlantTableShort, SegmentTableShort}
 
+-- The number of each reason, by the table of chapter 8 (rule 8.1). The first three are those of number reading.
 abbrev pub numberOf : Reason → ℕ
 numberOf Ends = ends
 numberOf NotShortest = notShortest
@@ -20,3 +22,7 @@ numberOf OutflowOverInflow = 12
 numberOf EmissionWithoutInflow = 13
 numberOf PlantTableShort = 14
 numberOf SegmentTableShort = 15
+
+-- What `Reason::number` promises: that number (rule 8.1).
+abbrev pub ReasonNumberPromise : Reason → ℕ → Type 0
+ReasonNumberPromise reason r = r ≡ numberOf reason

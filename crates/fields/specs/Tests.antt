@@ -1,5 +1,4 @@
--- Tests of a file, each at its place, without a reader of fields. A test looks up in the file the numbers that it needs; what a number is, and
--- which of the faults 1, 2 and 3 it has, the number layer says (`readAt`).
+-- Tests of a file, each at its place, without a reader of fields: a test looks up in the file the numbers that it needs.
 use Prim.Native.Nat.{ℕ, zero, suc}
 use mathlib.Core.Path.{_≡_}
 use mathlib.Core.Bool.{Bool, true, false, not, cond}
@@ -13,18 +12,18 @@ use Rattle.fields.specs.declared.reason.Reason.{Reason}
 use Rattle.fields.specs.declared.reason.Reason.the-variants.{Ends, NotShortest, TooLarge, BytesAfter}
 use Rattle.fields.specs.Reasons.{numberOf}
 
--- A test that refuses a file where it fails.
+-- A test: whether it fails, and for which reason and at which place it then refuses the file.
 pub record Test : Type 0 where
   pub fails : Bool
   pub reason : Reason
   pub place : ℕ
 
--- The first test that fails refuses; where none does, the answer stands.
+-- The first test that fails refuses; if none does, the answer is the given one (rule 8.8).
 unfoldable pub testedBy : {A : Type 0} → ((number place : ℕ) → A) → List Test → A → A
 testedBy refuse [] answer = answer
 testedBy refuse (test ∷ tests) answer = cond (test .fails) (refuse (numberOf (test .reason)) (test .place)) (testedBy refuse tests answer)
 
--- Which test that is: it fails, and none before it does.
+-- Number and place of the first test that fails: none before it does.
 pub data FirstFails : List Test → (number place : ℕ) → Type 0 where
   here : {test : Test} {tests : List Test} → test .fails ≡ true → FirstFails (test ∷ tests) (numberOf (test .reason)) (test .place)
   later :
@@ -37,34 +36,34 @@ pub data NoneFails : List Test → Type 0 where
   holds : {test : Test} {tests : List Test} → test .fails ≡ false → NoneFails tests → NoneFails (test ∷ tests)
 
 -- ---- the tests of a number
--- 1, 2 and 3: the faults that the number layer finds. A number has at most one.
+-- Whether number reading found this fault: 1, 2 or 3. A number has at most one (rule 1.5).
 abbrev pub isFault : Reason → Found → Bool
 isFault reason (oneNumber value next) = false
 isFault reason (oneFault found) = eqb found (numberOf reason)
 
--- the test of number k for one of them
+-- The test of number k for one of the faults.
 abbrev pub faultTest : Reason → List ℕ → ℕ → Test
 faultTest reason file k = record { fails = isFault reason (numberAt file k); reason = reason; place = k }
 
--- for all three, in 01's order
+-- The tests of number k for all three faults (rule 1.5).
 abbrev pub numberTests : List ℕ → ℕ → List Test
 numberTests file k = faultTest Ends file k ∷ faultTest NotShortest file k ∷ faultTest TooLarge file k ∷ []
 
--- the test of a number's own field
+-- The tests of number k: for its faults, then for its own field (rule 8.3).
 abbrev pub fieldTests : Reason → (ℕ → Bool) → List ℕ → ℕ → List Test
 fieldTests reason allowed file k = numberTests file k ++ record { fails = not (allowed (valueAt file k)); reason = reason; place = k } ∷ []
 
--- 9: more bytes than so many numbers need; the place is their count
+-- 9: there are bytes behind a count of numbers; the place is that count (rule 8.4).
 abbrev pub endTest : List ℕ → (count : ℕ) → Test
 endTest file count = record { fails = ltb (startOf file count) (length file); reason = BytesAfter; place = count }
 
--- ---- so many records, from an index on
--- what stands at each index
+-- ---- a count of records, from an index on
+-- The list of what is at each index.
 unfoldable pub listed : {A : Type 0} → (ℕ → A) → (from count : ℕ) → List A
 listed at from zero = []
 listed at from (suc count) = at from ∷ listed at (suc from) count
 
--- the tests of each, one record after another
+-- The tests of each, one record after another.
 unfoldable pub testsOfEach : (ℕ → List Test) → (from count : ℕ) → List Test
 testsOfEach tests from zero = []
 testsOfEach tests from (suc count) = tests from ++ testsOfEach tests (suc from) count

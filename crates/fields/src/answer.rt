@@ -1,9 +1,8 @@
-// The answer to a file: accepted, or refused for a reason at a place.
-ghost use mathlib.Core.Path.{_≡_};
-ghost use Rattle.fields.specs.Answers.{refusedFor, said, refusalNumber, refusalPlace};
+// The answer to a file: accepted, or refused for a reason at a place (rule 8.1).
+ghost use Rattle.fields.specs.Answers.{AnswerPlacePromise, AnswerRefusalPromise, RefusedPromise};
 use crate::reason::Reason;
 
-// Why, and where: the place of the number at fault, counted from 0, where the reason says nothing else.
+// Why and where: each reason says what its place is, mostly that of the number at fault, counted from 0 (rule 8.2).
 pub struct Refusal {
     pub reason: Reason,
     pub place: u64,
@@ -15,16 +14,16 @@ pub enum Answer {
 }
 
 impl Answer {
-    // Refused for a reason, at a place.
+    // Refused for a reason, at a place (rule 8.1).
     pub fn refused(reason: Reason, place: u64) -> Answer
-        ensures { λ r. ⌜ r ≡ refusedFor reason place ⌝ }
+        ensures { λ r. ⌜ RefusedPromise reason place r ⌝ }
     {
         Answer::Refused(Refusal { reason, place })
     }
 
-    // The number of refusal, and 0 where it is accepted.
+    // The number of refusal, and 0 for an accepted file (rule 8.1).
     pub fn refusal(self) -> u32
-        ensures { λ r. ⌜ r ≡ refusalNumber (said self) ⌝ }
+        ensures { λ r. ⌜ AnswerRefusalPromise self r ⌝ }
     {
         match self {
             Answer::Accepted => 0,
@@ -35,9 +34,9 @@ impl Answer {
         }
     }
 
-    // The place of the fault, and 0 where it is accepted.
+    // The place of the refusal, and 0 for an accepted file (rule 8.2).
     pub fn place(self) -> u64
-        ensures { λ r. ⌜ r ≡ refusalPlace (said self) ⌝ }
+        ensures { λ r. ⌜ AnswerPlacePromise self r ⌝ }
     {
         match self {
             Answer::Accepted => 0,

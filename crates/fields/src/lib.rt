@@ -1,8 +1,7 @@
-// Files of numbers: how one is read field by field, and how it is answered (01, "The period file").
+// Files of numbers: how one is read field by field, and how it is answered (rules 2.1 and 8.1 to 8.4).
 //
-// Everything that reads a file of seven-bit numbers stands on this: a spot in the file, the number that
-// is taken there, the reasons to refuse, the end. What the fields of a file are and which values they
-// allow is for the layer above to say.
+// Everything that reads a file of numbers is built on this: a spot in the file, the number that is taken there, the reasons to
+// refuse, the end. The layer above says what the fields of a file are and which values they allow.
 pub mod answer;
 pub mod reason;
 pub mod spot;

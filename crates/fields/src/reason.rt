@@ -1,28 +1,27 @@
-// The reasons to refuse. 01 and 02 number them once, for all files and calls, and so there is one enum.
-ghost use mathlib.Core.Path.{_≡_};
-ghost use Rattle.fields.specs.Reasons.{numberOf};
+// The reasons to refuse: one enum for all files and calls, since each number has one meaning (rule 8.1).
+ghost use Rattle.fields.specs.Reasons.{ReasonNumberPromise};
 
 // In the order of their numbers. Files of every kind can have 1, 2, 3, 5 and 9.
 pub enum Reason {
-    // The file is at its end, and a number is unfinished or still to come.
+    // The bytes end within a number, or before one that is still due.
     Ends,
     // A number is not in its shortest form.
     NotShortest,
-    // A number's fifth group says that more follow, or its value is over the largest.
+    // A number has more groups than five, or its value is over the limit.
     TooLarge,
     // The edition is not the one that is read here.
     WrongEdition,
-    // There are too few or too many records of a kind.
+    // A count is out of its range: there are too few or too many records of a kind, or days.
     WrongCount,
-    // A field of a plant is outside its range.
+    // A plant's first segment or origin fraction is out of its range.
     WrongPlant,
     // A segment has a kind or a next segment that is not allowed.
     WrongSegment,
-    // A field of a line is not allowed.
+    // A line's owner kind, owner, class or factor is not allowed.
     WrongLine,
     // Bytes follow the last number. The place is the count of numbers.
     BytesAfter,
-    // An owner's total of grams passes the limit. The place is the line that passes it.
+    // An owner's grams are over the limit. The place is the line with which they are.
     TooManyGrams,
     // A segment's inflow is over the largest amount. The place is the segment, here and in the next two.
     InflowTooLarge,
@@ -37,9 +36,9 @@ pub enum Reason {
 }
 
 impl Reason {
-    // Its number of refusal.
+    // Its number of refusal (rule 8.1).
     pub fn number(self) -> u32
-        ensures { λ r. ⌜ r ≡ numberOf self ⌝ }
+        ensures { λ r. ⌜ ReasonNumberPromise self r ⌝ }
     {
         match self {
             Reason::Ends => 1,

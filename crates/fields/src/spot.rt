@@ -1,6 +1,5 @@
-// Where a number stands in a file.
-ghost use mathlib.Core.Path.{_≡_};
-ghost use Rattle.fields.specs.Spots.{firstSpot, refusalAt};
+// Where a number is in a file (rules 2.1 and 8.2).
+ghost use Rattle.fields.specs.Spots.{SpotFirstPromise, SpotRefusalPromise};
 use crate::answer::Refusal;
 use crate::reason::Reason;
 
@@ -11,16 +10,16 @@ pub struct Spot {
 }
 
 impl Spot {
-    // Where the first number of a file stands.
+    // The spot of the first number of a file (rule 2.1).
     pub fn first() -> Spot
-        ensures { λ r. ⌜ r ≡ firstSpot ⌝ }
+        ensures { λ r. ⌜ SpotFirstPromise r ⌝ }
     {
         Spot { byte: 0, place: 0 }
     }
 
-    // The refusal of the number that stands here.
+    // The refusal of the number at this spot, with its place (rule 8.2).
     pub fn refusal(self, reason: Reason) -> Refusal
-        ensures { λ r. ⌜ r ≡ refusalAt self reason ⌝ }
+        ensures { λ r. ⌜ SpotRefusalPromise self reason r ⌝ }
     {
         Refusal {
             reason,

@@ -1,7 +1,5 @@
-// Numbers taken from a file, one after another, and its end.
-ghost use mathlib.Core.Path.{_≡_};
-ghost use Rattle.fields.specs.Answers.{said};
-ghost use Rattle.fields.specs.Spots.{took, takeAt, endAt};
+// Numbers taken from a file, one after another, and its end (rules 2.1 and 8.2 to 8.4).
+ghost use Rattle.fields.specs.Spots.{NothingAfterPromise, TakePromise};
 use crate::answer::Answer;
 use crate::answer::Refusal;
 use crate::reason::Reason;
@@ -15,10 +13,9 @@ pub enum Taken {
     Refused(Refusal),
 }
 
-// Takes the number at a spot, for the field that it is. Any spot may be asked; places are counted in 64
-// bits, of which no file uses up the last.
+// Takes the number at a spot, or its fault (rules 2.1, 8.2 and 8.3). Any spot may be given; places wrap at 64 bits, which no file reaches.
 pub fn take(file: &[u8], at: Spot) -> Taken
-    ensures { λ r. ⌜ took r ≡ takeAt (now (file .entry)) at ⌝ }
+    ensures { λ r. ⌜ TakePromise (now (file .entry)) at r ⌝ }
 {
     match read_at(file, at.byte) {
         Number::Value { value, next } => {
@@ -31,9 +28,9 @@ pub fn take(file: &[u8], at: Spot) -> Taken
     }
 }
 
-// Whether a file ends at a spot, behind its last number: bytes that follow are refused.
+// Whether a file ends at a spot, behind its last number: bytes that follow are refused (rule 8.4).
 pub fn nothing_after(file: &[u8], at: Spot) -> Answer
-    ensures { λ r. ⌜ said r ≡ endAt (now (file .entry)) at ⌝ }
+    ensures { λ r. ⌜ NothingAfterPromise (now (file .entry)) at r ⌝ }
 {
     if at.byte < file.len() {
         return Answer::Refused(at.refusal(Reason::BytesAfter));

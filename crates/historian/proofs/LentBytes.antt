@@ -1,5 +1,5 @@
--- The tables of the C caller, read as numbers, are left as the call below promises for tables of numbers. So the theorems about an accepting
--- call's tables hold of the caller's bytes. The result and the place tell the first of 01's reasons that holds, and a refusal leaves the bytes
+-- The tables of the C caller, read as numbers, are left as the call below promises for tables of numbers (rule 10.7). So the theorems about an
+-- accepting call's tables hold of the caller's bytes. The result and the place tell the first reason that holds, and a refusal leaves the bytes
 -- as they were.
 use Prim.Native.Nat.{ℕ, _<_}
 use mathlib.Core.Path.{_≡_, refl, sym, ap, ap₂, _∙_}
@@ -37,11 +37,11 @@ module _ {file plants segments : List ℕ} {outcome : Outcome} (promised : Entry
   abbrev ruling : Ruling
   ruling = entryRuling file plants segments
 
-  -- 01's tests of the file and of the tables' whole numbers
+  -- all tests of the file and of the tables' whole numbers
   abbrev tests : List Test
   tests = allTests file (wholeNumbers plants) (wholeNumbers segments)
 
-  -- with tables of so many numbers it is the same
+  -- with tables of as many numbers it is the same
   same-ruling : quantified file (length (tableNumbers plants)) (length (tableNumbers segments)) ≡ ruling
   same-ruling = ap₂ (quantified file) (first-length (wholeNumbers plants) plants) (first-length (wholeNumbers segments) segments)
 
@@ -100,12 +100,12 @@ module _ {file plants segments : List ℕ} {outcome : Outcome} (promised : Entry
       by-ruling (refusal number place) some = (refl, refl)
       by-ruling (accepted plant-numbers segment-numbers) some = absurd (some refl)
 
-  -- where no test fails the ruling is an acceptance
+  -- if no test fails the ruling is an acceptance
   passed-accepts : NoneFails tests → rulingVerdict ruling ≡ accepts
   unfolding rows
   passed-accepts none = ap rulingVerdict (accepted-exactly file (wholeNumbers plants) (wholeNumbers segments) .1 none)
 
-  -- the result is 0 exactly where none fails
+  -- the result is 0 exactly if none fails
   pub accepted-exactly-bytes : (outcome .result ≡ 0) ↔ NoneFails tests
   accepted-exactly-bytes = (
     λ none. by-ruling ruling refl (sym (promised .result) ∙ none),
@@ -118,7 +118,7 @@ module _ {file plants segments : List ℕ} {outcome : Outcome} (promised : Entry
       by-ruling (accepted plant-numbers segment-numbers) is none =
           accepted-is file (wholeNumbers plants) (wholeNumbers segments) plant-numbers segment-numbers is
 
-  -- so it is 0 only where the file is accepted
+  -- so it is 0 only if the file is accepted
   pub accepted-told : outcome .result ≡ 0 → rulingVerdict ruling ≡ accepts
   accepted-told none = passed-accepts (accepted-exactly-bytes .0 none)
 

@@ -1,5 +1,5 @@
--- What a C caller finds behind its five figures: it is told exactly whether and why its sheet is refused; a refusal leaves the figures alone; and
--- where the sheet is accepted they are its figures, so that each theorem on accepted sheets holds of them.
+-- What a C caller finds in its five figures: the result says exactly whether and why its sheet is refused; a refusal leaves the figures alone; and
+-- if the sheet is accepted they are its figures, so that each theorem on accepted sheets holds of them (rule 12.9).
 use Prim.Native.Nat.{ℕ, _<_}
 use mathlib.Core.Path.{_≡_, refl, sym, ap, _∙_}
 use mathlib.Core.Logic.{_↔_}
@@ -41,7 +41,7 @@ module _ (sheet : List ℕ) (before : Figures) (outcome : DaysOutcome) (promised
       by-answer (refusal number place) some = refl
       by-answer (figures found) some = absurd (some refl)
 
-  -- the result is 0 only where the sheet is accepted, and then the five are its figures
+  -- the result is 0 only if the sheet is accepted, and then the five are its figures
   pub sheet-figures-told : outcome .result ≡ 0 → meterDays sheet ≡ figures (outcome .figures)
   sheet-figures-told none = by-answer (meterDays sheet) refl (sym (promised .result) ∙ none) (promised .figures-after)
     where
@@ -51,7 +51,7 @@ module _ (sheet : List ℕ) (before : Figures) (outcome : DaysOutcome) (promised
       by-answer (refusal number place) is zero-number left = absurd (omega (arith, refusal-numbered sheet number place is))
       by-answer (figures found) is zero-number left = ap figures (sym left)
 
-  -- which is exactly where no test fails
+  -- which is so exactly if no test fails
   pub sheet-accepted-exactly : (outcome .result ≡ 0) ↔ NoneFails (sheetTests sheet)
   sheet-accepted-exactly = (
     λ none. counted-is sheet (outcome .figures) (sheet-figures-told none),

@@ -11,7 +11,7 @@ use Rattle.meter.specs.declared.call.MeterDays.the-variants.{Counted, Refused}
 use Rattle.meter.specs.Days.{SheetAnswer, figures, refusal, sheetVerdict, meterDays, daysTold, DaysPromise}
 use Rattle.historian.specs.Sheets.{figuresAfter, leaves, DaysEntryPromise}
 
--- what an answer leaves, where it is the one to the sheet
+-- what an answer leaves, if it is the one to the sheet
 left-by : (sheet : List ℕ) (before : Figures) (answer : SheetAnswer) → answer ≡ meterDays sheet →
     DaysEntryPromise sheet before (leaves (refusalNumber (sheetVerdict answer)) (refusalPlace (sheetVerdict answer)) (figuresAfter answer before))
 left-by sheet before answer is = record {

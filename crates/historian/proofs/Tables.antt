@@ -1,4 +1,4 @@
--- What the entry leaves in the historian's tables: nothing where the file is refused, else the bytes of its rows.
+-- What the entry leaves in the historian's tables: what was there if the file is refused, else the bytes of its rows.
 use Prim.Native.Nat.{ℕ}
 use mathlib.Core.Path.{_≡_, refl, sym, ap, _∙_}
 use mathlib.Core.List.{List, flatMap}

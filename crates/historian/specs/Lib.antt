@@ -1,3 +1,3 @@
--- The definitions of 01 and 02 for the C caller.
+-- The promises of the two calls from C.
 pub mod Tables
 pub mod Sheets

@@ -8,18 +8,18 @@ use Rattle.accounts.specs.Quantified.{quantified}
 use Rattle.period.specs.Written.{rulingVerdict, plantEntries, segmentEntries}
 use Rattle.tables.specs.Bytes.{wholeNumbers, bytesOverwritten}
 
--- The ruling on a file, with these tables.
+-- The ruling on a file, with tables that have as many entries as whole numbers (rules 8.8 and 10.5).
 abbrev pub entryRuling : (file plants segments : List ℕ) → Ruling
 entryRuling file plants segments = quantified file (wholeNumbers plants) (wholeNumbers segments)
 
--- What a call leaves to its caller.
+-- What a call leaves to its caller (rule 10.6).
 pub record Outcome : Type 0 where
   pub result : ℕ
   pub place : ℕ
   pub plants : List ℕ
   pub segments : List ℕ
 
--- The promise of the call: the number of refusal and the place, 0 and 0 where the file is accepted, and the tables.
+-- The promise of `steeplecuff_quantify`: number of refusal and place, 0 and 0 if the file is accepted, and the tables (rules 10.5 and 10.6).
 pub record EntryPromise (file plants segments : List ℕ) (outcome : Outcome) : Type 0 where
   pub result : outcome .result ≡ refusalNumber (rulingVerdict (entryRuling file plants segments))
   pub place : outcome .place ≡ refusalPlace (rulingVerdict (entryRuling file plants segments))

@@ -1,4 +1,4 @@
-// The entry that the historian calls from C, on bytes.
+// The entry for a period file, which the historian calls from C, on bytes (rules 10.5 to 10.7).
 ghost use Rattle.historian.specs.Tables.{EntryPromise};
 use fields::Answer;
 use period::answer_with_tables;
@@ -7,10 +7,7 @@ use tables::room;
 use tables::write_plants;
 use tables::write_segments;
 
-// Answers a file of any length and content, with tables of any lengths: the number of refusal and the
-// place, 0 and 0 where the file is accepted. A refusal leaves both tables as they were; acceptance
-// writes the rows from their start, and later entries and spare bytes stay. C calls it by
-// include/steeplecuff.h.
+// Answers any file with any tables: number of refusal and place, 0 and 0 if it is accepted (rules 10.2 to 10.7; include/steeplecuff.h).
 #[no_mangle]
 pub extern "C" fn steeplecuff_quantify(
     file: &[u8],

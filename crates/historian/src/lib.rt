@@ -1,7 +1,5 @@
-// The entries for the plant historian, written in C (01, "Who calls it"; 02, T-01).
-//
-// The layers below answer a period file and a meter's sheet. The historian lends tables of bytes and
-// numbers: here the answers go into them. What they hold afterwards is said by the definitions in specs/.
+// The entries for the plant historian, which is written in C (rules 10.5 to 10.7 and 12.9).
+// The layers below answer a period file and a meter's sheet; here the answers go into the bytes and numbers that the historian lends.
 pub mod call;
 pub mod sheet;
 

@@ -1,11 +1,9 @@
-// The entry for a meter's sheet, which the historian calls from C.
+// The entry for a meter's sheet, which the historian calls from C (rule 12.9).
 ghost use Rattle.historian.specs.Sheets.{five, leaves, DaysEntryPromise};
 use meter::MeterDays;
 use meter::days;
 
-// Answers a sheet of any length and content: the number of refusal and the place, 0 and 0 where it is
-// accepted. Acceptance writes the five figures; a refusal leaves them as they were. C calls it by
-// include/steeplecuff.h.
+// Answers any sheet: number of refusal and place, or 0, 0 and the five figures if it is accepted (rule 12.9; include/steeplecuff.h).
 #[no_mangle]
 pub extern "C" fn steeplecuff_days(
     sheet: &[u8],

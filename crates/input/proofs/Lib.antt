@@ -1,2 +1,2 @@
--- What callers go by after reading.
+-- What callers use after reading.
 pub mod BytesRead

@@ -1,2 +1,2 @@
--- What the reading of standard input leaves behind.
+-- What reading standard input promises.
 pub mod Received

@@ -1,19 +1,18 @@
-// Standard input, read into room that is lent: what all programs share.
+// Reads standard input into lent room, for all programs.
 ghost use Rattle.input.specs.Received.{Received};
 use libc::STDIN_FILENO;
 use output::complain;
 
 // What came of reading standard input.
 pub enum Input {
-    // So many bytes of the file stand at the start of the room: all of them, or as many as fit.
+    // How many bytes of the file are at the start of the room: all of them, or as many as fit.
     File { bytes: usize },
     // A read failed, which is not the end of the file.
     Fault,
 }
 
-// Reads standard input to its end, or until the room is full. A read that fails is said on standard
-// error, behind the program's name. It is not tried again: libc does not tell why it failed, and one
-// that a signal interrupts is taken up by the system itself, since the programs handle no signals.
+// Reads standard input to its end, or until the room is full. A read that fails is said on standard error, and not tried again:
+// libc does not tell why it failed, and the programs handle no signals, so the system itself takes up a read that one interrupts.
 pub fn read_input(program: &[u8], room: &mut [u8]) -> Input
     ensures { λ r. ⌜ Received r (now (room .exit)) ⌝ }
 {
@@ -33,6 +32,7 @@ pub fn read_input(program: &[u8], room: &mut [u8]) -> Input
     Input::File { bytes }
 }
 
+// Says on standard error that standard input cannot be read.
 fn say_unread(program: &[u8]) {
     complain(
         program,

@@ -1,5 +1,4 @@
-// How a page ends: 01's line where reading refuses the file, and a last line that says where the walk
-// stopped.
+// How a page ends: the line of a refused file, if reading refuses it, and a last line that says where the walk stopped (rule 11.6).
 ghost use Prim.Native.Nat.{_+_, _≤_};
 ghost use mathlib.Core.Path.{_≡_};
 ghost use lib.ListN.{length};
@@ -27,12 +26,11 @@ enum Stop {
     Fault,
     // At the end of the file.
     End,
-    // At the end of the bytes that were read of it.
+    // At the end of the bytes that are walked, if the file is longer.
     Cut,
 }
 
-// Prints how the page ends of a walk that stopped at a spot and a field, behind the text that waits in
-// the room.
+// Prints the text that waits in the room, and behind it the end of the page; the walk stopped at this spot and field.
 pub(crate) fn print_ending(
     room: &mut [u8],
     at: usize,
@@ -47,8 +45,7 @@ pub(crate) fn print_ending(
     print(b"inspect", &room[..end]);
 }
 
-// Puts it into a buffer: the number where the walk stopped, if it has a fault, what reading refuses, and
-// the stop.
+// Puts the end of the page: the line of a number that has a fault, the line of a refused file, and the stop (rule 11.6).
 fn put_ending(
     buffer: &mut [u8],
     at: usize,
@@ -74,8 +71,7 @@ fn put_ending(
     )
 }
 
-// Bytes that end are cut where the file goes on behind them. Else they end inside a number, or the file
-// does.
+// The stop by what is found there. If the bytes end, the file is cut there, or all of it is walked, or it ends inside a number.
 fn stop_of(found: Number, cut: bool, all_walked: bool) -> Stop
     ensures { λ r. ⌜ r ≡ stopOf (finds found) cut «all_walked» ⌝ }
 {
@@ -92,7 +88,7 @@ fn stop_of(found: Number, cut: bool, all_walked: bool) -> Stop
     }
 }
 
-// Puts the line of the number where the walk stopped; nothing where there is none.
+// Puts the line of the number where the walk stopped, if it has a fault.
 fn put_stopped_at(
     buffer: &mut [u8],
     at: usize,
@@ -120,7 +116,7 @@ fn put_faulty(buffer: &mut [u8], at: usize, place: u64, byte: usize, field: Fiel
     put_field(buffer, at, field)
 }
 
-// Puts the line of a refused file, as `rows` prints it; nothing where it is accepted.
+// Puts the line of a refused file (rule 11.2); nothing if it is accepted.
 fn put_verdict(buffer: &mut [u8], at: usize, answer: Answer) -> usize
     ensures { λ r. ⌜ Put (verdictText (said answer)) at (now (buffer .entry)) r (now (buffer .exit)) ⌝ }
 {
@@ -130,8 +126,7 @@ fn put_verdict(buffer: &mut [u8], at: usize, answer: Answer) -> usize
     put_words(buffer, at, b"")
 }
 
-// Puts the last line: a letter for the stop, with the fault's number and its place, or with the count
-// of numbers and of bytes before it.
+// Puts the last line: F with the fault and its place, or E or C with the counts of numbers and bytes before the stop (rule 11.6).
 fn put_stop(buffer: &mut [u8], at: usize, stop: Stop, fault: u64, place: u64, byte: usize) -> usize
     ensures { λ r. ⌜ Put (stopLine stop fault place byte) at (now (buffer .entry)) r (now (buffer .exit)) ⌝ }
 {

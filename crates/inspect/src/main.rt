@@ -1,8 +1,4 @@
-// The inspector's program: it takes a period file from standard input, and prints each number with
-// its place, its byte and its field, whether reading refuses it, and where the walk stops.
-//
-// A fault of reading is not the end of the file: it is said on standard error, with what to do next,
-// and so is output that cannot be written.
+// The inspector's program for a period file on standard input: it prints the inspector's page (rule 11.6).
 mod ending;
 mod page;
 mod room;
@@ -12,6 +8,7 @@ use crate::room::text_room;
 use input::Input;
 use input::read_input;
 
+// If standard input cannot be read, `read_input` says so, and nothing is printed.
 fn main() {
     let mut room = io::large_buffer();
     // The last byte of the room is not walked: it shows that a file goes on.

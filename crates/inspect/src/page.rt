@@ -1,4 +1,4 @@
-// The inspector's page: a line for each number of a file, and then how it ends.
+// The inspector's page: a line for each number of a file, and then the end of the page (rule 11.6).
 ghost use Prim.Native.Nat.{_≤_};
 ghost use lib.ListN.{length};
 ghost use Rattle.output.specs.Put.{Put};
@@ -16,9 +16,7 @@ use output::put_number;
 use output::put_spaced;
 use reading::header_of;
 
-// Walks the file from its start, number by number, up to the first step that answers no number. Of a
-// file that is cut these are the first bytes. Lines wait in the room until there is less of it left
-// than the longest text can take.
+// Walks a file, or the front of a cut one, up to the first step that finds no number. Lines wait in the room until it is nearly full.
 pub(crate) fn print_page(room: &mut [u8], file: &[u8], cut: bool)
     requires { ⌜ mostPageText ≤ length (now room) ⌝ }
 {
@@ -46,7 +44,7 @@ pub(crate) fn print_page(room: &mut [u8], file: &[u8], cut: bool)
     }
 }
 
-// Puts place, byte, value and field of a number.
+// Puts the line of a number: its place, its byte, its value and its field (rule 11.6).
 fn put_number_line(
     buffer: &mut [u8],
     at: usize,

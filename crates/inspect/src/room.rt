@@ -1,21 +1,20 @@
-// Room for what is printed.
+// Room for the lines of the inspector's page (rule 11.6).
 ghost use Prim.Native.Nat.{_≤_};
 ghost use lib.ListN.{length};
 ghost use Rattle.inspect.specs.Page.{mostPageText};
 use names::MOST_FIELD_WORDS;
 use output::MOST_SPACED;
 
-// The numbers of the longest text, that of a fault: the record's, place and byte in its line, and two in
-// each of the two lettered lines.
+// How many numbers the longest text has, that of a fault: record, place and byte in its line, two in each of the two lettered lines.
 const FAULT_NUMBERS: usize = 7;
 
-// The letters and the ends of these two lines, and the sign for a value that is not there.
+// The bytes of the letters and ends of these two lines, and of the sign for a value that is not there.
 const FAULT_SIGNS: usize = 6;
 
-// No line of a page is longer, nor are the lines at its end together.
+// The most bytes of a line of the page, and of the lines at its end together.
 pub(crate) const MOST_TEXT: usize = MOST_FIELD_WORDS + MOST_SPACED * FAULT_NUMBERS + FAULT_SIGNS;
 
-// How many of the longest texts there is room for: so many lines and more are printed at a time.
+// How many of the longest texts there is room for, so that not every line is printed by itself.
 const TEXTS: usize = 10;
 
 // Zeros, with room for the lines that wait to be printed.

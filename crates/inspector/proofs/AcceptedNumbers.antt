@@ -18,7 +18,7 @@ use Rattle.accounts.proofs.Testing.{refusal-not-accepted}
 use Rattle.accounts.proofs.Refused.{reading-refuses}
 
 module _ {file plants segments : List ℕ} (given : Accepted file plants segments) where
-  -- was read to its end
+  -- it was read to its end
   accepted-read : (place : ℕ) × (reads period 0 (run file) ≡ read (held file) place over)
   unfolding held periodFile
   accepted-read = by-outcome (reads period 0 (run file)) refl

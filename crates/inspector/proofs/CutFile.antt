@@ -1,4 +1,4 @@
--- A walk over a file that is cut: it gives no other numbers and no other faults than the whole file does, but for 1 at its end.
+-- A walk over a file that is cut: it gives no other numbers and no other faults than the whole file does, except 1 at its end.
 use Prim.Native.Nat.{ℕ}
 use mathlib.Core.Path.{_≡_, sym, ap, _∙_}
 use mathlib.Core.Bool.{true≢false}
@@ -34,7 +34,7 @@ module _ (file short : RefT (List ℕ)) (count : ℕ) (cut : now short ≡ take 
   pub cut-walked : {values : List ℕ} → Walked short values → Walked file values
   cut-walked walked = record { last = atByte file (walked .last .at); walks = cut-walks 0 (walked .walks) }
 
-  -- and a fault there is the file's own, but for 1
+  -- and a fault there is the file's own, except 1
   pub cut-fault :
       {values : List ℕ} {refusal at : ℕ} → (refusal ≡ ends → ⊥) → Stops short values refusal at → Stops file values refusal at
   cut-fault {refusal} {at} not-ends stops =

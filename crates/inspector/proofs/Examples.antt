@@ -1,5 +1,5 @@
--- 01's whole period, walked: the numbers that reading consumes of it, where they start, and which fields they are. And what is consumed of files
--- that are refused.
+-- The worked period (rule 13.11), walked: the numbers that reading consumes of it, where they start, and which fields they are. And what is consumed
+-- of files that are refused.
 use mathlib.Core.Path.{_≡_, refl}
 use mathlib.Core.List.{[], _∷_, flatMap}
 use Rattle.number.specs.Groups.{gather, value, padded}
@@ -20,7 +20,7 @@ use Rattle.inspector.specs.FieldsAt.{fieldAt}
 pub examples :
     -- all its numbers are consumed
     (consumed whole ≡ numbers 10000 5001 14900 6 14899 2000 350)
-    -- number 5 stands in the byte 6, and the file ends at byte 37
+    -- number 5 starts at byte 6, and the file ends at byte 37
     × (numberAt whole 5 ≡ number 1 7)
     × (startOf whole 26 ≡ 37)
     -- the header tells two records of each kind, and so the fields: the header's lines, plant 2's first segment, line 1's factor, none

@@ -31,9 +31,9 @@ use Rattle.inspector.specs.FieldsTold.{standsIn}
 use Rattle.inspector.proofs.AcceptedNumbers.{accepted-header}
 use Rattle.inspector.proofs.WalkOverFile.{walked-value, accepted-numbers}
 
--- ---- records of so many numbers each, one after another, and other numbers behind them
+-- ---- records that each have as many numbers as the others, one after another, and other numbers behind them
 module _ {A : Type 0} (numbers : A → List ℕ) (fields : ℕ) (sized : (one : A) → length (numbers one) ≡ fields) where
-  -- how many there are of all
+  -- how many numbers all records have
   of-each-length : (all : List A) → length (inTurn numbers all) ≡ fields * length all
   unfolding inTurn
   of-each-length [] = omega arith
@@ -53,7 +53,7 @@ module _ {A : Type 0} (numbers : A → List ℕ) (fields : ℕ) (sized : (one : 
       rw (next, append-assoc)
       (getD-append-add (numbers one) (inTurn numbers rest ++ behind) (fields * n + f) 0 ∙ in-record rest none behind n f (omega arith) small)
 
-  -- what stands at an index: a field of one of the records, or a number behind them
+  -- the number at an index: a field of one of the records, or a number behind them
   abbrev standing : (all : List A) (none : A) (behind : List ℕ) → ℕ → ℕ
   standing all none behind index =
       cond (ltb (index / fields) (length all)) (getD (numbers (getD all (index / fields) none)) (index % fields) 0)

@@ -1,4 +1,4 @@
--- What the proofs over a reader share, and what a caller of a step goes by.
+-- What the proofs over a reader share, and what a caller of a step uses.
 mod ByHand
 mod Lent
 pub mod Steps
@@ -12,5 +12,5 @@ pub mod FieldsNamed
 pub mod RefusedFields
 -- No two outcomes meet a promise.
 pub mod Outcome
--- 01's whole period.
+-- The worked period.
 pub mod Examples

@@ -1,5 +1,5 @@
--- Where reading refuses a file for what a number says, or for bytes after the last one, the field that is named at that place is one of the
--- refused kind.
+-- If reading refuses a file for what a number says, or for bytes after the last one, the field that is named at that place is one of the
+-- refused kind (rule 11.5).
 use Prim.Native.Nat.{ℕ, _-_, _*_, _/_, _≤_, _<_}
 use mathlib.Core.Path.{_≡_, refl, sym, ap, _∙_}
 use mathlib.Core.List.{List}
@@ -55,7 +55,7 @@ records-due counts (line-field {place} its) =
     let here : (place - headerFields - plantFields * counts .plants - segmentFields * counts .segments) / lineFields < counts .lines = omega (arith, its) in
     simp (le-ltb, lt-ltb) refl
 
--- so is the refusal of a field that reading came to, where it is none of the faults of numbers
+-- so the refusal of a field at which reading ended is due there, if it is not the fault of a number
 field-due :
     {file : List ℕ} {Field : (place : ℕ) → Reason → Type 0} {A : Type 0} {P : A → (place at : ℕ) → Type 0} {refusal place : ℕ} (told : Header) →
     ((reason : Reason) → Field place reason → due told place ≡ numberOf reason) → numberOf WrongEdition ≤ refusal →
@@ -63,7 +63,7 @@ field-due :
 field-due told its large (not-allowed {reason} (field, room)) = its reason field
 field-due told its large (has-fault small) = absurd (omega arith)
 
--- and behind the records that of the bytes that follow
+-- and behind the records the refusal for bytes that follow is due
 records-end-due :
     {file : List ℕ} {refusal place : ℕ} (counts : Counts) → numberOf WrongEdition ≤ refusal →
     Ended file (Placed (RecordField counts)) (RecordsRead counts) (refused refusal place) → due (Tells counts) place ≡ refusal

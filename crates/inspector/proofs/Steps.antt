@@ -1,4 +1,4 @@
--- What a caller of `step_at` goes by: a step that finds a number moves on.
+-- What a caller of `step_at` uses: a step that finds a number moves on.
 use Prim.Native.Nat.{ℕ}
 use mathlib.Core.Path.{_≡_, sym, ap, _∙_}
 use mathlib.Core.List.{List}

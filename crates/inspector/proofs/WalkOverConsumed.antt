@@ -25,7 +25,7 @@ use Rattle.inspector.specs.declared.Inspector.{Inspector}
 use Rattle.inspector.specs.Reader.{stepped}
 use Rattle.inspector.specs.Walk.{Walks, there, step}
 
--- ---- how the reading of a file ends, after so many numbers
+-- ---- how the reading of a file ends, after a count of numbers
 pub data Ending {A : Type 0} (file : List ℕ) (count : ℕ) : Read A → Type 0 where
   -- all is read, and no bytes are left
   all-read : {what : A} → length file ≤ startOf file count → Ending file count (read what count over)

@@ -1,5 +1,5 @@
--- What a walk over a file gives: the numbers that the period's reading consumed, in order. Of an accepted file these are all, and of one that is
--- refused after reading, for 10 to 15. A file that is refused for 1, 2 or 3 stops with that fault after as many numbers as the place says; for
+-- What a walk over a file gives: the numbers that the period's reading consumed, in order (rule 11.4). If the file is accepted, or refused after
+-- reading, for 10 to 15, these are all. If it is refused for 1, 2 or 3, the walk stops with that fault after as many numbers as the place says; for
 -- 4 to 8 the refused number is the last of them; for 9 bytes are left after them.
 use Prim.Native.Nat.{ℕ, zero, suc, _+_, _≤_, _<_}
 use mathlib.Core.Path.{_≡_, refl, sym, ap, _∙_}
@@ -43,7 +43,7 @@ stands-from file k end e is there = let same : k ≡ end = omega (arith, e) in r
 stands-from file k end e is (step is-number more) =
     stands-from file (suc k) end (omega (arith, e)) (ap stepped is ∙ steps-on file k (rw is at is-number)) more
 
--- after so many steps the reader stands where that number of the file starts
+-- after k steps the reader stands where number k of the file starts
 pub stands :
     {file : RefT (List ℕ)} {values : List ℕ} {last : Inspector} → Walks (begun file) values last →
     last ≡ record { file = file; at = startOf (now file) (length values) }
@@ -72,7 +72,7 @@ pub stopped :
 stopped {last} walks is e = record { last = last; walks = walks; stands = is; fault = rw is e; stays = rw (is, e) refl }
 
 -- ---- a walk that stops is the only one
--- where a step answers a number, it answers no fault
+-- if a step answers a number, it answers no fault
 one-from :
     {reader last last' : Inspector} {values values' : List ℕ} {found found' : ℕ} → Walks reader values last → findsNext last ≡ oneFault found →
     Walks reader values' last' → findsNext last' ≡ oneFault found' → (values ≡ values') × (last ≡ last')
@@ -112,18 +112,18 @@ module _ (file : RefT (List ℕ)) where
       let count-is : all .count ≡ steps = omega (arith, all .counted) in
       rw count-is at (all .ending)
 
-  -- the walk stops after them where the next number has a fault
+  -- the walk stops after them if the next number has a fault
   consumed-stops : {found : ℕ} → numberAt (now file) steps ≡ oneFault found → Stops file (consumed (now file)) found after
   consumed-stops e = let walks = consumed-walked file .walks in stopped walks (stands walks) e
 
 -- ---- a file that is read to its end
--- where reading comes to a period, no bytes are left
+-- if reading gives a period, no bytes are left
 read-ending :
     {A : Type 0} {file : List ℕ} {count place : ℕ} {what : A} {rest : Run} → Ending file count (read what place rest) →
     length file ≤ startOf file count
 read-ending (all-read h) = h
 
--- so the numbers that it consumed are all: the reader then stands at the end, where stands fault 1
+-- so the numbers that it consumed are all: the reader then stands at the end, where it finds fault 1
 pub read-walked :
     (file : RefT (List ℕ)) {what : Period} {place : ℕ} {rest : Run} → periodFile (now file) ≡ read what place rest →
     Stops file (consumed (now file)) ends (length (now file))

@@ -1,5 +1,6 @@
--- Which field of which record a number is, by its place and by what the header tells.
+-- Which field of which record a number is, by its place and by what the header tells (rule 11.5).
 use Prim.Native.Nat.{ℕ, suc, _-_, _*_, _/_, _%_}
+use mathlib.Core.Path.{_≡_}
 use mathlib.Core.Bool.{cond}
 use lib.Dec.{ltb}
 use Rattle.records.specs.declared.header.Header.{Header}
@@ -11,13 +12,12 @@ use Rattle.records.specs.Headers.{headerFields}
 use Rattle.inspector.specs.declared.field.Field.{Field}
 use Rattle.inspector.specs.declared.field.Field.the-variants as Field
 
--- At an index among so many records with so many fields each: the field, counted from 0, of the record, numbered from 1; or, behind them
--- all, what is found there.
+-- At an index among `count` records of `fields` fields each: the record, from 1, and its field, from 0; or what comes behind them all.
 abbrev pub among : (fields count : ℕ) → (ℕ → ℕ → Field) → (ℕ → Field) → ℕ → Field
 among fields count of behind index =
     cond (ltb (index / fields) count) (of (suc (index / fields)) (index % fields)) (behind (index - fields * count))
 
--- Behind the header, at an index: plants, segments and lines, as many as it announces.
+-- The field at an index behind the header: of plants, segments and lines, as many as it announces.
 abbrev pub behindHeader : Header → ℕ → Field
 behindHeader TellsNothing index = Field.Untold
 behindHeader (Tells counts) index =
@@ -25,6 +25,10 @@ behindHeader (Tells counts) index =
     (among segmentFields (counts .segments) Field.Segment
     (among lineFields (counts .lines) Field.Line (λ left. Field.After))) index
 
--- The field at a place: the header's own come first.
+-- The field at a place: the header's own come first (rule 11.5).
 unfoldable pub fieldAt : Header → ℕ → Field
 fieldAt header place = cond (ltb place headerFields) (Field.Header place) (behindHeader header (place - headerFields))
+
+-- What `field_at` promises.
+abbrev pub FieldAtPromise : Header → (place : ℕ) → Field → Type 0
+FieldAtPromise header place r = r ≡ fieldAt header place

@@ -1,4 +1,4 @@
--- What the theorems say of a field: the number that stands in it, and the refusal that is due to it.
+-- What the theorems say of a field: the number in it, and the refusal that is due to it (rule 11.5).
 use Prim.Native.Nat.{ℕ, zero, suc, _-_}
 use lib.ListN.{getD}
 use Rattle.fields.specs.declared.reason.Reason.the-variants.{WrongEdition, WrongCount, WrongPlant, WrongSegment, WrongLine, BytesAfter}
@@ -11,7 +11,7 @@ use Rattle.records.specs.Numbers.{headerNumbersOf, plantNumbersOf, segmentNumbe
 use Rattle.inspector.specs.declared.field.Field.{Field}
 use Rattle.inspector.specs.declared.field.Field.the-variants as Field
 
--- What stands in a field of a period.
+-- The number in a field of a period; 0 if there is no such field.
 abbrev pub standsIn : Field → Period → ℕ
 standsIn (Field.Header field) period = getD (headerNumbersOf period) field 0
 standsIn (Field.Plant number field) period = getD (plantNumbersOf (getD (period .plants) (number - 1) noPlant)) field 0
@@ -20,8 +20,7 @@ standsIn (Field.Line number field) period = getD (lineNumbersOf (getD (period .l
 standsIn Field.After period = 0
 standsIn Field.Untold period = 0
 
--- The refusal that is due to a field: that of its number where it is not allowed; behind the last one, that of the bytes that follow; and
--- none where the header tells nothing.
+-- The refusal for a number in this field that is not allowed, 4 to 8; behind the last number 9; 0, which is none, if the header tells nothing.
 abbrev pub refusalDue : Field → ℕ
 refusalDue (Field.Header zero) = numberOf WrongEdition
 refusalDue (Field.Header (suc field)) = numberOf WrongCount

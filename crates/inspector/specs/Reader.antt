@@ -1,8 +1,9 @@
--- The inspector's reader (01, "Who calls it"): a lent file, and the byte of the number that comes next. A step says what number reading finds
--- there. Behind a number the reader stands at the next one; a fault, or the end of the file, leaves it where it is.
+-- The inspector's reader: a lent file, and the byte where its next number starts (rule 11.3).
 use Prim.Native.Nat.{ℕ}
+use mathlib.Core.Path.{_≡_}
 use mathlib.Core.List.{List}
 use denote.Ref.{RefT, now}
+use Rattle.number.specs.declared.Number.{Number}
 use Rattle.number.specs.Reading.{Found, readAt}
 use Rattle.number.specs.Finding.{finds}
 use Rattle.number.specs.Counting.{endOf}
@@ -14,11 +15,11 @@ pub record Stepped : Type 0 where
   pub found : Found
   pub at : ℕ
 
--- A step at a byte of a file: past the number that starts there, or at that byte where none does.
+-- A step at a byte: what number reading finds there, and the byte behind that number; at a fault or the end the same byte (rule 11.3).
 abbrev pub stepAt : List ℕ → ℕ → Stepped
 stepAt file at = record { found = readAt file at; at = endOf at (readAt file at) }
 
--- A reader at the start of a file.
+-- A reader at the start of a file (rule 11.3).
 abbrev pub begun : RefT (List ℕ) → Inspector
 begun file = record { file = file; at = 0 }
 
@@ -26,13 +27,32 @@ begun file = record { file = file; at = 0 }
 abbrev pub standsAt : Inspector → ℕ
 standsAt reader = reader .at
 
--- What its next step finds, and the reader after that step: the same file, further on.
+-- What the next step of a reader finds.
 abbrev pub findsNext : Inspector → Found
 findsNext reader = stepAt (now (reader .file)) (reader .at) .found
 
+-- The reader after that step: the same file, and the byte that the step gives (rule 11.3).
 abbrev pub stepped : Inspector → Inspector
 stepped reader = record { file = reader .file; at = stepAt (now (reader .file)) (reader .at) .at }
 
--- The code's step in these terms.
+-- The code's step, as the definitions have it.
 abbrev pub steppedBy : Step → Stepped
 steppedBy step = record { found = finds (step .found); at = step .at }
+
+-- ---- what the public functions promise
+-- `Inspector::new`
+abbrev pub InspectorNewPromise : (file : RefT (List ℕ)) → Inspector → Type 0
+InspectorNewPromise file r = r ≡ begun file
+
+-- `Inspector::at`
+abbrev pub InspectorAtPromise : Inspector → ℕ → Type 0
+InspectorAtPromise reader r = r ≡ standsAt reader
+
+-- `Inspector::step`: what it finds, and the reader afterwards.
+pub record StepPromise (reader : Inspector) (r : Number) (reader' : Inspector) : Type 0 where
+  pub found : finds r ≡ findsNext reader
+  pub moved : reader' ≡ stepped reader
+
+-- `step_at`
+abbrev pub StepAtPromise : (file : List ℕ) (at : ℕ) → Step → Type 0
+StepAtPromise file at r = steppedBy r ≡ stepAt file at

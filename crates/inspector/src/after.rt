@@ -1,10 +1,10 @@
-// Where a reader stands after a step.
+// Where a reader stands after a step (rule 11.3).
 ghost use mathlib.Core.Path.{_≡_};
 ghost use Rattle.number.specs.Finding.{finds};
 ghost use Rattle.number.specs.Counting.{endOf};
 use number::Number;
 
-// Past a number that was found where it stood; a fault leaves it there.
+// The byte behind the number that was found; after a fault the same byte.
 pub(crate) fn after(found: Number, at: usize) -> usize
     ensures { λ r. ⌜ r ≡ endOf at (finds found) ⌝ }
 {

@@ -1,12 +1,11 @@
-// Which field of which record a number of the file is, told by its place and by the header.
-ghost use mathlib.Core.Path.{_≡_};
-ghost use Rattle.inspector.specs.FieldsAt.{fieldAt};
+// Which field of which record a number of the file is, by its place and by what the header tells (rule 11.5).
+ghost use Rattle.inspector.specs.FieldsAt.{FieldAtPromise};
 use records::Header;
 use records::Line;
 use records::Plant;
 use records::Segment;
 
-// A record's fields are counted from 0 in the order of the file, and the records of a kind from 1.
+// A field of the file. The fields of a record count from 0 in file order, the records of a kind from 1.
 pub enum Field {
     // Of the header: edition, plants, segments, lines.
     Header { field: u64 },
@@ -16,15 +15,15 @@ pub enum Field {
     Segment { number: u64, field: u64 },
     // Of a line: owner kind, owner number, class, quantity, factor.
     Line { number: u64, field: u64 },
-    // The header announces fewer numbers.
+    // Behind the last number that the header announces.
     After,
-    // The header tells nothing.
+    // Behind a header that is refused, so that it tells nothing.
     Untold,
 }
 
-// The field at a place.
+// The field at a place (rule 11.5).
 pub fn field_at(header: Header, place: u64) -> Field
-    ensures { λ r. ⌜ r ≡ fieldAt header place ⌝ }
+    ensures { λ r. ⌜ FieldAtPromise header place r ⌝ }
 {
     if place < Header::FIELDS as u64 {
         return Field::Header { field: place };

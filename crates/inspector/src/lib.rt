@@ -1,15 +1,12 @@
-// The inspector's reader: it holds the lent file and the byte where its next number starts, and walks
-// it number by number (01, "Who calls it").
+// The inspector's reader, which goes over a lent file from number to number (rule 11.3), and the names of fields (rule 11.5).
 //
-// Each function over the reader is proved by hand, since the kit proves none over a struct with a
-// reference in it by itself. So they are thin, and leave the work to the number layer.
+// The functions over the reader are proved by hand, since the kit by itself proves none over a struct that holds a reference.
+// So they are thin, and leave the work to `number`.
 mod after;
 pub mod field;
 pub mod step;
 
-ghost use mathlib.Core.Path.{_≡_};
-ghost use Rattle.number.specs.Finding.{finds};
-ghost use Rattle.inspector.specs.Reader.{begun, findsNext, standsAt, stepped};
+ghost use Rattle.inspector.specs.Reader.{InspectorAtPromise, InspectorNewPromise, StepPromise};
 use crate::after::after;
 pub use crate::field::Field;
 pub use crate::field::field_at;
@@ -18,7 +15,7 @@ pub use crate::step::step_at;
 use number::Number;
 use number::read_at;
 
-// A reader of the file.
+// A reader of a file.
 pub struct Inspector<'a> {
     // The lent file.
     pub file: &'a [u8],
@@ -27,25 +24,23 @@ pub struct Inspector<'a> {
 }
 
 impl<'a> Inspector<'a> {
-    // A reader at the start of the file.
+    // A reader at the start of the file (rule 11.3).
     pub fn new(file: &'a [u8]) -> Inspector<'a>
-        ensures { λ r. ⌜ r ≡ begun (file .entry) ⌝ }
+        ensures { λ r. ⌜ InspectorNewPromise (file .entry) r ⌝ }
     {
         Inspector { file, at: 0 }
     }
 
-    // Where it stands: the byte where its next number starts.
+    // Where it stands: the byte where its next number starts (rule 11.3).
     pub fn at(self) -> usize
-        ensures { λ r. ⌜ r ≡ standsAt (self .entry) ⌝ }
+        ensures { λ r. ⌜ InspectorAtPromise (self .entry) r ⌝ }
     {
         self.at
     }
 
-    // Tells what stands at its byte, and goes on to the byte behind that number. A fault, or the end of the
-    // file, keeps it where it is.
+    // Answers what number reading finds at its byte, and goes behind that number; at a fault or the end it stays (rule 11.3).
     pub fn step<'s>(&'s mut self) -> Number
-        ensures { λ r. ⌜ finds r ≡ findsNext (now (self .entry)) ⌝ }
-        ensures { λ _. ⌜ now (self .exit) ≡ stepped (now (self .entry)) ⌝ }
+        ensures { λ r. ⌜ StepPromise (now (self .entry)) r (now (self .exit)) ⌝ }
     {
         let found = read_at(self.file, self.at);
         self.at = after(found, self.at);

@@ -1,6 +1,5 @@
-// One step for a caller that holds a file and a byte in it, and no reader.
-ghost use mathlib.Core.Path.{_≡_};
-ghost use Rattle.inspector.specs.Reader.{stepAt, steppedBy};
+// One step for a caller that holds a file and a byte, and no reader (rule 11.3).
+ghost use Rattle.inspector.specs.Reader.{StepAtPromise};
 use crate::Inspector;
 use number::Number;
 
@@ -10,9 +9,9 @@ pub struct Step {
     pub at: usize,
 }
 
-// The step of a reader that stands at a byte of the file. Any byte may be asked.
+// The step of a reader that stands at a byte of the file, which may be past its end (rule 11.3).
 pub fn step_at(file: &[u8], at: usize) -> Step
-    ensures { λ r. ⌜ steppedBy r ≡ stepAt (now (file .entry)) at ⌝ }
+    ensures { λ r. ⌜ StepAtPromise (now (file .entry)) at r ⌝ }
 {
     let mut inspector = Inspector { file, at };
     let found = inspector.step();

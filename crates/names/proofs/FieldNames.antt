@@ -1,4 +1,4 @@
--- The words for the last field of a record, which stand for all fields from it on; and how long a field's words are at most.
+-- The words for the last field of a record, which are those of all fields from it on; and how long a field's words are at most.
 use Prim.Native.Nat.{ℕ, zero, suc, _+_, _≤_, _<_}
 use mathlib.Core.Path.{_≡_, refl}
 use native.Mathlib.Omega.{arith}
@@ -35,7 +35,7 @@ line-last (suc (suc (suc zero))) more = absurd (omega arith)
 line-last (suc (suc (suc (suc field)))) more = refl
 
 -- ---- how long
--- no words of a field are longer, with its record's number among them
+-- the most bytes of a field's words, with its record's number
 abbrev pub mostFieldText : ℕ
 mostFieldText = mostSpaced + mostFieldWords
 
@@ -46,7 +46,7 @@ header-words-long (suc zero) = omega arith
 header-words-long (suc (suc zero)) = omega arith
 header-words-long (suc (suc (suc field))) = omega arith
 
--- what stands behind a record's number: no name is longer
+-- the most bytes of the name behind a record's number
 abbrev mostName : ℕ
 mostName = 17
 

@@ -1,4 +1,4 @@
--- The words for a field, as 01 names it, up to the end of the line.
+-- The words for a field, up to the end of the line (rule 11.5).
 use Prim.Native.Nat.{ℕ, zero, suc}
 use mathlib.Core.List.{List, _++_}
 use Rattle.inspector.specs.declared.field.Field.{Field}
@@ -40,7 +40,7 @@ segmentText number field = ascii " segment" ++ spaced number ++ segmentWords fie
 abbrev pub lineText : (number field : ℕ) → List ℕ
 lineText number field = ascii " line" ++ spaced number ++ lineWords field
 
--- Which field of which record.
+-- Which field of which record it is (rule 11.5).
 abbrev pub fieldText : Field → List ℕ
 fieldText (Header field) = headerWords field
 fieldText (Plant number field) = plantText number field
@@ -49,6 +49,6 @@ fieldText (Line number field) = lineText number field
 fieldText After = ascii " after the last number\n"
 fieldText Untold = ascii " not told by the header\n"
 
--- No words of a field are longer, without its record's number.
+-- The most bytes of a field's words, without its record's number.
 abbrev pub mostFieldWords : ℕ
 mostFieldWords = 25

@@ -1,5 +1,4 @@
-// The words for a field, as 01 names it, up to the end of the line: put into a lent buffer, as the layer
-// of what is printed puts all text.
+// Puts the words for a field, up to the end of the line, into a lent buffer (rule 11.5).
 ghost use mathlib.Core.List.{_++_};
 ghost use Rattle.output.specs.Lines.{spaced};
 ghost use Rattle.output.specs.Put.{Put};
@@ -8,10 +7,10 @@ use inspector::Field;
 use output::put_spaced;
 use output::put_words;
 
-// No words of a field are longer, without its record's number.
+// The most bytes of a field's words, without its record's number.
 pub const MOST_FIELD_WORDS: usize = 25;
 
-// Puts which field of which record it is.
+// Puts which field of which record it is (rule 11.5).
 pub fn put_field(buffer: &mut [u8], at: usize, field: Field) -> usize
     ensures { λ r. ⌜ Put (fieldText field) at (now (buffer .entry)) r (now (buffer .exit)) ⌝ }
 {
@@ -25,6 +24,7 @@ pub fn put_field(buffer: &mut [u8], at: usize, field: Field) -> usize
     }
 }
 
+// Puts the words for a field of the header.
 fn put_header_field(buffer: &mut [u8], at: usize, field: u64) -> usize
     ensures { λ r. ⌜ Put (headerWords field) at (now (buffer .entry)) r (now (buffer .exit)) ⌝ }
 {
@@ -36,6 +36,7 @@ fn put_header_field(buffer: &mut [u8], at: usize, field: u64) -> usize
     }
 }
 
+// Puts the words for a field of the plant with this number.
 fn put_plant_field(buffer: &mut [u8], at: usize, number: u64, field: u64) -> usize
     ensures { λ r. ⌜ Put (plantText number field) at (now (buffer .entry)) r (now (buffer .exit)) ⌝ }
 {
@@ -47,6 +48,7 @@ fn put_plant_field(buffer: &mut [u8], at: usize, number: u64, field: u64) -> usi
     }
 }
 
+// Puts the words for a field of the segment with this number.
 fn put_segment_field(buffer: &mut [u8], at: usize, number: u64, field: u64) -> usize
     ensures { λ r. ⌜ Put (segmentText number field) at (now (buffer .entry)) r (now (buffer .exit)) ⌝ }
 {
@@ -58,6 +60,7 @@ fn put_segment_field(buffer: &mut [u8], at: usize, number: u64, field: u64) -> u
     }
 }
 
+// Puts the words for a field of the line with this number.
 fn put_line_field(buffer: &mut [u8], at: usize, number: u64, field: u64) -> usize
     ensures { λ r. ⌜ Put (lineText number field) at (now (buffer .entry)) r (now (buffer .exit)) ⌝ }
 {

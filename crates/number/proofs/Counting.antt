@@ -26,7 +26,7 @@ module _ (file : List ℕ) where
     unfolding valueAt
     value-is = ap valueIn is
 
-  -- behind a fault no other byte is come to
+  -- behind a fault the next number starts at the same byte
   pub same-start : (k : ℕ) {refusal : ℕ} → numberAt file k ≡ fault refusal → startOf file (suc k) ≡ startOf file k
   unfolding startOf
   same-start k is = ap (endOf (startOf file k)) is

@@ -1,4 +1,4 @@
--- 01's examples of numbers, and the faults at their edges, as one statement about the definitions: the bytes, one of them, what stands there.
+-- The numbers that rules 1.3 and 1.4 name, and the faults of rule 1.5 at their edges, in one statement: bytes, the index of one, what is there.
 use mathlib.Core.Path.{_≡_, refl}
 use mathlib.Core.List.{[], _∷_}
 use Rattle.number.specs.Groups.{gather, value, padded}
@@ -7,7 +7,7 @@ use Rattle.number.specs.Reading.Found.{number, fault}
 use Rattle.number.specs.Writing.{writing, written}
 
 pub examples :
-    -- the examples of 01, read
+    -- the numbers that the rules name, read
     (readAt (0x7F ∷ []) 0 ≡ number 127 1)
     × (readAt (0x80 ∷ 0x01 ∷ []) 0 ≡ number 128 2)
     × (readAt (0xAC ∷ 0x02 ∷ []) 0 ≡ number 300 2)

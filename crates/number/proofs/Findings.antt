@@ -1,4 +1,4 @@
--- What is found, taken apart: what a number that was read says of the bytes, and that what stands so is read so.
+-- What is found, taken apart: what a number that was read says of the bytes, and that such bytes are read as that number.
 use Prim.Native.Nat.{ℕ, _+_, _≤_}
 use mathlib.Core.Path.{_≡_, refl, sym, ap, ap₂, _∙_}
 use mathlib.Core.List.{List}
@@ -19,7 +19,7 @@ pub gathered-is : (file : List ℕ) (at : ℕ) (g : Gathering) → gather mostGr
 unfolding readAt reading
 gathered-is file at g e = ap (λ (x : Gathering). from at (foundOf x)) e
 
--- ---- a number that was read: its groups stand there in the shortest form, and its value is within the limit
+-- ---- a number that was read: its groups are there in the shortest form, and its value is within the limit
 pub record Formed (groups : List ℕ) (v n : ℕ) : Type 0 where
   pub shortest : padded groups ≡ false
   pub value-is : value groups ≡ v
@@ -55,7 +55,7 @@ reads bytes v n e = found (gather mostGroups bytes) refl e
     found cut q f = absurd (never f)
     found long q f = absurd (never f)
 
--- and what stands so is read so
+-- and bytes with such groups are read as that number
 pub front-reads : (bytes groups : List ℕ) (v n : ℕ) → Fronts mostGroups bytes groups → Formed groups v n → reading bytes ≡ number v n
 unfolding reading formed
 front-reads bytes groups v n front f =

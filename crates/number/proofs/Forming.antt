@@ -76,7 +76,7 @@ formed-as groups = by-form (padded groups) refl
 
 -- ---- the groups that came, in an array whose rest is zero
 module _ (count group : ℕ) (groups : List ℕ) (c : Counted count group groups) where
-  -- so many came
+  -- as many came as count says
   counted-length : length (take count groups) ≡ count
   counted-length = length-take-le count groups (omega arith)
 

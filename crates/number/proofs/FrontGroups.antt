@@ -1,4 +1,4 @@
--- The groups of a whole number at the front of some bytes, as a relation: what gathering finds, in a form to go by induction on.
+-- The groups of a whole number at the front of some bytes, as a relation: what gathering finds, in a form for induction.
 use Prim.Native.Nat.{ℕ, zero, suc, _%_, _≤_, _<_}
 use mathlib.Core.Path.{_≡_, refl, sym, ap, _∙_}
 use mathlib.Core.List.{List, [], _∷_, _++_}
@@ -14,12 +14,12 @@ use Rattle.number.specs.Groups.Gathering.{whole, cut, long}
 use Rattle.number.specs.Inside.AreGroups.{none, more}
 use Rattle.number.proofs.Gathering.{gather-more, gather-last, last-or-more}
 
--- `Fronts k s gs`: a number of at most k groups stands at the front of s, and gs are its groups
+-- `Fronts k s gs`: a number of at most k groups is at the front of s, and gs are its groups
 pub data Fronts : ℕ → List ℕ → List ℕ → Type 0 where
   last-group : {k b : ℕ} {s : List ℕ} → b < radix → Fronts (suc k) (b ∷ s) (b % radix ∷ [])
   group-before : {k b : ℕ} {s gs : List ℕ} → radix ≤ b → Fronts k s gs → Fronts (suc k) (b ∷ s) (b % radix ∷ gs)
 
--- what stands there is gathered
+-- what is there is gathered
 pub gathers : {k : ℕ} {s gs : List ℕ} → Fronts k s gs → gather k s ≡ whole gs
 gathers (last-group {k} {b} {s} h) = gather-last k b s h
 gathers (group-before {k} {b} {s} h r) = gather-more k b s h ∙ ap (before (b % radix)) (gathers r)
@@ -30,7 +30,7 @@ before-whole g (whole hs) gs e = (hs, refl, cc)
 before-whole g cut gs e = absurd (true≢false (cc))
 before-whole g long gs e = absurd (true≢false (cc))
 
--- and what is gathered as a whole number stands there
+-- and what is gathered as a whole number is there
 pub fronts : (k : ℕ) (s gs : List ℕ) → gather k s ≡ whole gs → Fronts k s gs
 unfolding gather
 fronts zero s gs e = absurd (true≢false (cc))
@@ -43,7 +43,7 @@ fronts (suc k) (b ∷ s) gs e =
     rw q (group-before h (fronts k s hs r)))
     (last-or-more b)
 
--- ---- what stands is groups, some, no more than there may be, within the bytes
+-- ---- these are groups, at least one, no more than there may be, and no more than there are bytes
 pub are-groups : {k : ℕ} {s gs : List ℕ} → Fronts k s gs → AreGroups gs
 are-groups (last-group {b = b} h) = more (mod-lt b (lit< tt)) none
 are-groups (group-before {b = b} h r) = more (mod-lt b (lit< tt)) (are-groups r)

@@ -14,12 +14,12 @@ use Rattle.number.proofs.Gathering.{gather-after, gather-take}
 use Rattle.number.proofs.FrontGroups.{Fronts, some, most, within, alone}
 use Rattle.number.proofs.Findings.{reads, front-reads, at-front, found-fault, from-fault}
 
--- ---- what stands at a byte is what stands at the front of the bytes from there on
+-- ---- what is at a byte is what is at the front of the bytes from there on
 pub at-byte : (file : List ℕ) (at : ℕ) → readAt file at ≡ from at (reading (drop at file))
 unfolding readAt
 at-byte file at = refl
 
--- ---- at the end of the file, and past it, stands fault 1
+-- ---- at the end of the file, and past it, is fault 1
 pub nothing-left : reading [] ≡ fault ends
 unfolding reading gather
 nothing-left = refl
@@ -75,7 +75,7 @@ from-from : (m n : ℕ) (a : Found) → from m (from n a) ≡ from (m + n) a
 from-from m n (number v k) = ap (number v) (sym (add-assoc m n k))
 from-from m n (fault k) = refl
 
--- so behind other bytes stands the same, that much further on
+-- so behind other bytes there is the same, further on by as many bytes
 pub what-precedes : (p file : List ℕ) (at : ℕ) → readAt (p ++ file) (length p + at) ≡ from (length p) (readAt file at)
 unfolding readAt
 what-precedes p file at =
@@ -111,7 +111,7 @@ only-five-bytes file at =
     ap (λ (g : Gathering). from at (foundOf g))
     (ap (gather mostGroups) (drop-take at mostGroups file) ∙ gather-take mostGroups (drop at file))
 
--- a number that was read is read as well when its last byte is the file's last, and when anything else follows
+-- a number that was read is read as well if its last byte is the file's last, and if anything else follows
 pub only-its-bytes : (file t : List ℕ) (at v n : ℕ) → readAt file at ≡ number v n → readAt (take n file ++ t) at ≡ number v n
 unfolding readAt
 only-its-bytes file t at v n e =

@@ -1,4 +1,4 @@
--- No two outcomes meet the promise of number reading: what an answer says in 01's terms determines the answer.
+-- No two outcomes meet the promise of number reading: what an answer says determines the answer.
 use Prim.Native.Nat.{ℕ}
 use mathlib.Core.Path.{_≡_, refl, sym, ap, _∙_}
 use mathlib.Core.List.{List}
@@ -6,9 +6,9 @@ use mathlib.Core.Bool.{cond}
 use lib.Dec.{eqb}
 use Rattle.number.specs.declared.Number.{Number}
 use Rattle.number.specs.declared.Number.the-variants.{Value, Ends, NotShortest, TooLarge}
-use Rattle.number.specs.Reading.{Found, readAt, ends, notShortest}
+use Rattle.number.specs.Reading.{Found, ends, notShortest}
 use Rattle.number.specs.Reading.Found.{number, fault}
-use Rattle.number.specs.Finding.{finds, refusalOf}
+use Rattle.number.specs.Finding.{finds, ReadAtPromise, NumberRefusalPromise}
 
 -- the answer that says it
 finding : Found → Number
@@ -28,9 +28,9 @@ pub finds-once : (r s : Number) → finds r ≡ finds s → r ≡ s
 finds-once r s e = sym (found-back r) ∙ ap finding e ∙ found-back s
 
 -- `read_at`: two answers that meet its promise, of one file at one byte, are the same
-pub one-reading : (file : List ℕ) (at : ℕ) (r s : Number) → finds r ≡ readAt file at → finds s ≡ readAt file at → r ≡ s
+pub one-reading : (file : List ℕ) (at : ℕ) (r s : Number) → ReadAtPromise file at r → ReadAtPromise file at s → r ≡ s
 one-reading file at r s p q = finds-once r s (p ∙ sym q)
 
 -- `Number::refusal`: its promise gives the result itself
-pub one-refusal : (n : Number) (r s : ℕ) → r ≡ refusalOf (finds n) → s ≡ refusalOf (finds n) → r ≡ s
-one-refusal n r s p q = p ∙ sym q
+pub one-refusal : (found : Number) (r s : ℕ) → NumberRefusalPromise found r → NumberRefusalPromise found s → r ≡ s
+one-refusal found r s p q = p ∙ sym q

@@ -17,7 +17,7 @@ use Rattle.number.specs.Inside.AreGroups.{none, more}
 pub group-more : (n : ℕ) → 2 ^ (groupBits * suc n) ≡ 2 ^ (groupBits * n) * radix
 group-more n = rw (mul-suc groupBits n, pow-add 2 (groupBits * n) groupBits)
 
--- so many groups, so many times seven bits
+-- a value has at most seven bits for each of its groups
 value-lt : {gs : List ℕ} → AreGroups gs → value gs < 2 ^ (groupBits * length gs)
 unfolding value
 value-lt none = lit< tt
@@ -62,7 +62,7 @@ pub start : (groups : List ℕ) → Forms groups 0 1 0
 start groups = record { value-is = omega arith; weight-is = refl }
 
 module _ (groups : List ℕ) (v w i : ℕ) (f : Forms groups v w i) where
-  -- where nothing is left, all is formed
+  -- if nothing is left, all is formed
   end : value (drop i groups) ≡ 0 → v ≡ value groups
   end e = let formed : value groups ≡ v + 0 * w = rw e at (f .value-is) in omega arith
 

@@ -33,7 +33,7 @@ writing-more : (k v : ℕ) → radix ≤ v → writing (suc k) v ≡ (radix + gr
 unfolding writing
 writing-more k v h = rw (le-ltb v radix h)
 
--- ---- what is written stands there
+-- ---- what is written is there
 record Written (k v : ℕ) (t : List ℕ) : Type 0 where
   groups : List ℕ
   front : Fronts k (writing k v ++ t) groups
@@ -76,7 +76,7 @@ more-allowed : (k v : ℕ) → radix ≤ v → v < 2 ^ (groupBits * suc k) → 0
 more-allowed zero v h b = absurd (omega arith)
 more-allowed (suc k) v h b = omega arith
 
--- a number that so many groups can hold stands written in them
+-- a number that a given count of groups can hold is written in them
 stands-written : (k v : ℕ) (t : List ℕ) → 0 < k → v < 2 ^ (groupBits * k) → Written k v t
 stands-written zero v t h b = absurd (omega arith)
 stands-written (suc k) v t h b = by-size (decLt v radix) (stands-written k (v / radix) t)
@@ -99,14 +99,14 @@ reads-back v t h =
     shortest (yes small) = padded-single (w .groups) (w .single small)
     shortest (no large) = padded-other (w .groups) (w .last-is (omega arith))
 
--- and wherever it stands
+-- and wherever it is
 pub reads-back-at : (p : List ℕ) (v : ℕ) (t : List ℕ) → v ≤ largest → readAt (p ++ (written v ++ t)) (length p) ≡ number v (length p + length (written v))
 unfolding readAt
 reads-back-at p v t h =
     ap (λ (s : List ℕ). from (length p) (reading s)) (drop-append-seam p (written v ++ t))
     ∙ ap (from (length p)) (reads-back v t h)
 
--- ---- what stands there is what is written
+-- ---- what is there is what is written
 -- groups that do not end in a zero group have a value above 0
 positive : (gs : List ℕ) → (last gs ≡ 0 → ⊥) → 0 < value gs
 unfolding value
@@ -170,7 +170,7 @@ one-form file at v n all e =
     }
 
 -- ---- the bytes of a number, by its value
--- a group that is not zero stands below every power that is above the value
+-- if a power is above the value, its exponent is above the index of every group that is not zero
 group-below : (groups : List ℕ) (i bytes : ℕ) → 0 < getD groups i 0 → value groups < radix ^ bytes → i < bytes
 unfolding value
 group-below [] i bytes some small = absurd (omega arith)

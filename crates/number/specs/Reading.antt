@@ -1,4 +1,4 @@
--- Reading the number at a byte of a file, with the faults in 01's order: too many groups (3), then the form (2), then the value (3).
+-- Reading the number at a byte of a file, and its faults in the order of rule 1.5.
 use Prim.Native.Nat.{ℕ, _+_}
 use mathlib.Core.List.{List}
 use mathlib.Core.Bool.{cond}
@@ -7,42 +7,42 @@ use lib.Dec.{leb}
 use Rattle.number.specs.Groups.{Gathering, gather, value, padded, mostGroups, largest}
 use Rattle.number.specs.Groups.Gathering.{whole, cut, long}
 
--- The faults by their numbers (01, "Numbers of refusal"). 1: the bytes are at an end, within a number or before it
+-- Fault 1: the bytes end within the number, or before it (rule 1.5).
 abbrev pub ends : ℕ
 ends = 1
 
--- 2: the number could be written shorter
+-- Fault 2: the number could be written shorter (rule 1.5).
 abbrev pub notShortest : ℕ
 notShortest = 2
 
--- 3: there are more groups than five, or they come to more than the largest value
+-- Fault 3: there are more groups than five, or the value is over the limit (rule 1.5).
 abbrev pub tooLarge : ℕ
 tooLarge = 3
 
--- What is found at a byte: a number, with its value and the byte after it; or a fault, with its number of refusal.
+-- What is found at a byte: a number, with its value and the byte behind it; or a fault, with its number of refusal.
 pub data Found : Type 0 where
   number : (value next : ℕ) → Found
   fault : (refusal : ℕ) → Found
 
--- The number of some groups, the byte after it counted from its first group.
+-- What groups form: the form is tested, then the value (rule 1.5). The byte behind is counted from the first group.
 unfoldable pub formed : List ℕ → Found
 formed groups = cond (padded groups) (fault notShortest) (cond (leb (value groups) largest) (number (value groups) (length groups)) (fault tooLarge))
 
--- What is found of what was gathered: the end of the file, too many groups, or what the groups form.
+-- What gathering leads to: fault 1 if the bytes end, fault 3 if there are too many groups, else what the groups form (rule 1.5).
 abbrev pub foundOf : Gathering → Found
 foundOf (whole groups) = formed groups
 foundOf cut = fault ends
 foundOf long = fault tooLarge
 
--- The number at the front of the bytes.
+-- The number, or its fault, at the front of the bytes (rule 1.5).
 unfoldable pub reading : List ℕ → Found
 reading bytes = foundOf (gather mostGroups bytes)
 
--- The same, counted from a byte.
+-- What was found, with the byte behind it counted on from `at`, where the number starts.
 abbrev pub from : ℕ → Found → Found
 from at (number v next) = number v (at + next)
 from at (fault k) = fault k
 
--- The number at a byte of the file.
+-- The number, or its fault, at a byte of the file: by the bytes from there on alone (rule 1.6).
 unfoldable pub readAt : List ℕ → ℕ → Found
 readAt file at = from at (reading (drop at file))

@@ -1,4 +1,4 @@
--- The shortest form of a number, as bytes (01, "The period file").
+-- The shortest form of a number, as bytes.
 use Prim.Native.Nat.{ℕ, zero, suc, _+_, _*_, _/_, _<_}
 use mathlib.Core.List.{List, [], _∷_}
 use mathlib.Core.Bool.{cond}
@@ -6,15 +6,15 @@ use lib.ListN.{getD}
 use lib.Dec.{ltb}
 use Rattle.number.specs.Groups.{mostGroups, radix, group}
 
--- When so many groups are allowed: one group where the number is below the radix; else a group that says another follows, and the rest.
+-- A number in at most a given number of groups: below 128 it is one byte; else a byte of 128 or more has its first group, and the rest follows.
 unfoldable pub writing : ℕ → ℕ → List ℕ
 writing zero v = []
 writing (suc allowed) v = cond (ltb v radix) (v ∷ []) ((radix + group v) ∷ writing allowed (v / radix))
 
--- The shortest form of a number of at most five groups.
+-- The shortest form of a number that fits into five groups (rule 1.3).
 unfoldable pub written : ℕ → List ℕ
 written v = writing mostGroups v
 
--- Each is a byte: a group, with the top bit or without.
+-- Each is a byte: below 256.
 abbrev pub AreBytes : List ℕ → Type 0
 AreBytes bytes = (i : ℕ) → getD bytes i 0 < 2 * radix

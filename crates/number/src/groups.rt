@@ -1,4 +1,4 @@
-// The groups of one number: gathered into an array first, its value formed from them afterwards.
+// The groups of one number: first all are gathered into an array, then the number is formed from them (rules 1.1 to 1.5).
 ghost use mathlib.Core.Path.{_≡_};
 ghost use Prim.Native.Nat.{_+_, _^_, _<_};
 ghost use lib.ListN.{take, replicate};
@@ -8,7 +8,7 @@ ghost use Rattle.number.specs.Finding.{finds};
 ghost use Rattle.number.specs.Inside.{AreGroups, Came, Counted, gathered, counted};
 use crate::Number;
 
-// A group has seven bits. A byte of so much or more says that another group follows.
+// A group has seven bits: a byte of 128 or more says that another group follows (rule 1.1).
 const RADIX: u64 = 128;
 
 // How the groups of a number ended.
@@ -21,8 +21,7 @@ pub(crate) enum Ending {
     More,
 }
 
-// Gathers the groups at the front of the bytes, up to the first that says none follows: that one is
-// its byte, and the others are theirs without the top bit. The groups that do not come stay zero.
+// Gathers the groups at the front of the bytes, up to the first after which none follows; the rest of the array stays zero (rule 1.1).
 pub(crate) fn gather(bytes: &[u8], groups: &mut [u64; Number::GROUPS]) -> Ending
     requires { ⌜ now groups ≡ replicate mostGroups 0 ⌝ }
     ensures { λ r. ⌜ gathered r (now (groups .exit)) ≡ Groups·gather mostGroups (now (bytes .entry)) ⌝ }
@@ -47,8 +46,7 @@ pub(crate) fn gather(bytes: &[u8], groups: &mut [u64; Number::GROUPS]) -> Ending
     Ending::More
 }
 
-// Forms the number that began at a byte from its groups, of which the last is group. Several groups
-// that end in a zero group are not its shortest form.
+// Forms the number that began at a byte from its groups, of which the last is group: first the form, then the size (rules 1.3 to 1.5).
 pub(crate) fn form(groups: &[u64; Number::GROUPS], count: usize, group: u64, at: usize) -> Number
     requires { ⌜ Counted count group (now groups) ⌝ }
     requires { ⌜ AreGroups (take count (now groups)) ⌝ }
@@ -70,8 +68,7 @@ pub(crate) fn form(groups: &[u64; Number::GROUPS], count: usize, group: u64, at:
     }
 }
 
-// The value of the groups, of which the first count came. Those that did not come are zero and add
-// nothing, so forming ends with the last that came.
+// The value of the groups, of which the first count came (rule 1.2). The others are zero and add nothing, so they are left out.
 fn value_of(groups: &[u64; Number::GROUPS], count: usize) -> u64
     requires { ⌜ Came count (now groups) ⌝ }
     requires { ⌜ AreGroups (now groups) ⌝ }

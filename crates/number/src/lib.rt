@@ -1,37 +1,35 @@
-// Number reading: one seven-bit number at a byte of a lent file (01, "The period file").
+// Number reading: the number, or its fault, at a byte of a lent file (rules 1.1 to 1.6).
 //
-// Every layer above reads its numbers through read_at, and goes by its promise and the laws of
-// proofs/ alone: no law above opens the definitions. Worked examples do, to compute.
+// Every layer above reads its numbers through read_at, and uses only its promise and the laws of proofs/.
+// No law above opens the definitions; worked examples do, to compute.
 mod groups;
 
-ghost use mathlib.Core.Path.{_≡_};
-ghost use Rattle.number.specs.Reading.{readAt};
-ghost use Rattle.number.specs.Finding.{finds, refusalOf};
+ghost use Rattle.number.specs.Finding.{NumberRefusalPromise, ReadAtPromise};
 use crate::groups::Ending;
 use crate::groups::form;
 use crate::groups::gather;
 
-// What stands at a byte: a number, or one of three faults.
+// What is at a byte: a number, or one of three faults (rule 1.5).
 pub enum Number {
-    // The value, and the byte right after the number.
+    // The value, and the first byte behind the number.
     Value { value: u64, next: usize },
-    // The file ends inside the number, or where one is needed.
+    // Fault 1: the bytes end before the number does.
     Ends,
-    // The number is not in its shortest form.
+    // Fault 2: the number could be written shorter.
     NotShortest,
-    // The fifth group says that more follow, or the value is over the largest.
+    // Fault 3: there are more groups than five, or the value is over the limit.
     TooLarge,
 }
 
 impl Number {
-    // The most groups of seven bits that a number has.
+    // The most groups that a number has (rule 1.4).
     pub const GROUPS: usize = 5;
-    // The largest value.
+    // The largest value of a number (rule 1.4).
     pub const LARGEST: u64 = 4_000_000_000;
 
-    // The number of refusal that a fault has, and 0 for a value.
+    // The number of refusal of a fault, and 0 for a value (rule 8.1).
     pub fn refusal(self) -> u32
-        ensures { λ r. ⌜ r ≡ refusalOf (finds self) ⌝ }
+        ensures { λ r. ⌜ NumberRefusalPromise self r ⌝ }
     {
         match self {
             Number::Value { value: _, next: _ } => 0,
@@ -42,9 +40,9 @@ impl Number {
     }
 }
 
-// The number at a byte of the file. Any byte may be asked: past the end the file has ended.
+// The number, or its fault, at a byte of the file (rules 1.1 to 1.6). Any byte may be asked for: past the end it is fault 1.
 pub fn read_at(file: &[u8], at: usize) -> Number
-    ensures { λ r. ⌜ finds r ≡ readAt (now (file .entry)) at ⌝ }
+    ensures { λ r. ⌜ ReadAtPromise (now (file .entry)) at r ⌝ }
 {
     if file.len() <= at {
         return Number::Ends;

@@ -1,4 +1,4 @@
--- A number's decimal digits: they read back as the number, none leads with 0 but that of 0 itself, and those that the kit makes are these.
+-- A number's decimal digits: they read back as the number, only those of 0 itself start with 0, and those that the kit makes are these.
 use Prim.Native.Nat.{ℕ, zero, suc, _+_, _-_, _*_, _/_, _%_, _^_, _≤_, _<_}
 use mathlib.Core.Path.{_≡_, refl, sym, _∙_}
 use mathlib.Core.Bool.{Bool, true, false}
@@ -17,7 +17,7 @@ use Rattle.output.specs.Decimal.{ten, digitZero, digit, mostDigits, deci
 abbrev pub FitsPlaces : ℕ → Type 0
 FitsPlaces number = number < ten ^ mostDigits
 
--- tens that fit one place less
+-- its tens fit one place less
 fewer-tens : (places number : ℕ) → number < ten ^ suc places → number / ten < ten ^ places
 fewer-tens places number fits = omega (arith, div-add-mod number ten, pow-suc ten places)
 

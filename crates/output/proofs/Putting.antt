@@ -1,4 +1,4 @@
--- Text in a buffer: piece after piece is the whole, and text that has room stands there.
+-- Text in a buffer: piece after piece is the whole, and text that has room is in the buffer.
 use Prim.Native.Nat.{ℕ, suc, _+_, _≤_, _<_, min}
 use mathlib.Core.Path.{_≡_, refl, sym, ap, _∙_}
 use mathlib.Core.List.{List, [], _∷_, _++_}
@@ -84,7 +84,7 @@ module _ {text buffer : List ℕ} {end : ℕ} {buffer' : List ℕ} (put : Put te
   pub put-within : end ≤ length buffer'
   put-within = omega (arith, ends-with-it, put-length put)
 
-  -- and what stands up to its end is the text
+  -- and the bytes up to its end are the text
   pub put-whole : take end buffer' ≡ text
   put-whole =
       ap (λ (after : List ℕ). take end after) (put .stands ∙ sets-eq text buffer 0 (omega (arith, room)))

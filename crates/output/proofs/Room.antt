@@ -36,7 +36,7 @@ rows-long letter width table (suc count) =
     rw (length-append (rowsText (letter ∷ []) width table count) (rowText (letter ∷ []) width table count))
     (omega (arith, rows-long letter width table count, row-long letter width table count))
 
--- A table of no more numbers than so many records have is no longer than their rows at most are.
+-- The text of a table of at most `most` records is no longer than the rows of that many records can be.
 pub table-long :
     (letter width : ℕ) (table : List ℕ) (most : ℕ) → 0 < width → length table ≤ width * most →
     length (tableText (letter ∷ []) width table) ≤ mostInRows most width
@@ -45,7 +45,7 @@ table-long letter width table most some few =
     le-trans (rows-long letter width table (length table / width)) (mul-le-mul-right (rowSigns + mostSpaced * suc width) (omega (arith, rows)))
 
 -- ---- where text ends
--- no more than so many bytes on
+-- text of at most `most` bytes ends no further than that from its start
 pub put-near :
     {text : List ℕ} {at : ℕ} {buffer : List ℕ} {end : ℕ} {buffer' : List ℕ} (most : ℕ) →
     Put text at buffer end buffer' → length text ≤ most → end ≤ at + most

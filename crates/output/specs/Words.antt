@@ -5,7 +5,7 @@ use Prim.Native.String.{String}
 use Prim.Native.String as quoted
 use mathlib.Core.List.{List, [], _∷_}
 
--- The codes of its characters, one after another: all text here is of ASCII, in which a character is a byte.
+-- The codes of its characters, in order. All text here is ASCII, so a character is one byte.
 abbrev pub ascii : String → List ℕ
 ascii quoted.[] = []
 ascii (quoted._∷_ character rest) = code character ∷ ascii rest

@@ -1,8 +1,7 @@
-// What programs print: text that is made in a lent buffer, and then handed to standard output.
+// What programs print: text is put into a lent buffer, and then handed to standard output (rules 11.1 and 11.2).
 //
-// Text is put at a byte of the buffer, as far as there is room. Each function answers the byte behind
-// what it put, which is past the buffer's end where the buffer is too short: then, and only then, some
-// of the text is missing.
+// Text is put at a byte of the buffer, as far as there is room, and the byte behind the text is answered.
+// An answer past the buffer's end says that text is missing, of this piece or of one before it.
 mod lines;
 mod printing;
 mod text;

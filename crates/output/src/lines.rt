@@ -1,4 +1,4 @@
-// Whole lines: words and numbers, the line of a refused file, the rows of a table.
+// Puts whole lines: words and numbers, the line of a refused file, the rows of a table (rules 11.1 and 11.2).
 ghost use Prim.Native.Nat.{_/_};
 ghost use mathlib.Core.Path.{_≡_};
 ghost use mathlib.Core.List.{_∷_};
@@ -9,7 +9,7 @@ use crate::text::put_spaced;
 use crate::text::put_words;
 use fields::Refusal;
 
-// Puts words, each number behind them after a space, and the end of the line.
+// Puts words, then each number with a space before it, and the end of the line (rule 11.1).
 pub fn put_line(buffer: &mut [u8], at: usize, words: &[u8], numbers: &[u64]) -> usize
     ensures { λ r. ⌜ Put (textLine (now (words .entry)) (now (numbers .entry))) at (now (buffer .entry)) r (now (buffer .exit)) ⌝ }
 {
@@ -22,7 +22,7 @@ pub fn put_line(buffer: &mut [u8], at: usize, words: &[u8], numbers: &[u64]) -> 
     put_byte(buffer, end, b'\n')
 }
 
-// Puts the line of a refused file: R, then the number of refusal and its place.
+// Puts the line of a refused file: R, the number of refusal, the place (rule 11.2).
 pub fn put_refusal(buffer: &mut [u8], at: usize, refusal: Refusal) -> usize
     ensures { λ r. ⌜ Put (refusalLine refusal) at (now (buffer .entry)) r (now (buffer .exit)) ⌝ }
 {
@@ -31,7 +31,7 @@ pub fn put_refusal(buffer: &mut [u8], at: usize, refusal: Refusal) -> usize
     put_line(buffer, at, b"R", &numbers)
 }
 
-// Puts the rows of a table, with so many numbers each, of records that are numbered from 1.
+// Puts the rows of a table, each of `width` numbers; the records are numbered from 1 (rule 11.1).
 pub fn put_rows(buffer: &mut [u8], at: usize, letter: &[u8], table: &[u64], width: usize) -> usize
     ensures { λ r. ⌜ Put (tableText (now (letter .entry)) width (now (table .entry))) at (now (buffer .entry)) r (now (buffer .exit)) ⌝ }
 {
@@ -62,7 +62,7 @@ fn put_row(buffer: &mut [u8], at: usize, letter: &[u8], own: u64, numbers: &[u64
     put_line(buffer, at, b"", numbers)
 }
 
-// How many whole rows a table has; none where a row has no numbers.
+// How many whole rows a table has: none if a row has no numbers.
 fn rows_in(table: usize, width: usize) -> usize
     ensures { λ r. ⌜ r ≡ table / width ⌝ }
 {

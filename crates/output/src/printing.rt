@@ -1,10 +1,9 @@
-// Standard output, where finished text goes, and standard error, where a fault is said. Each function
-// answers the text that it handed over; nothing of it, where not all was taken.
+// Hands text to standard output or standard error, and answers the text, or nothing if not all was taken (rules 11.1 and 11.2).
 ghost use Rattle.output.specs.HandedOver.{HandedOver};
 use libc::STDERR_FILENO;
 use libc::STDOUT_FILENO;
 
-// Prints a text. Where not all of it is taken, that is said.
+// Prints a text (rules 11.1 and 11.2). If not all of it is taken, that is said on standard error.
 pub fn print<'a>(program: &[u8], text: &'a [u8]) -> &'a [u8]
     ensures { λ r. ⌜ HandedOver (now r) (now (text .entry)) ⌝ }
 {
@@ -18,8 +17,7 @@ pub fn print<'a>(program: &[u8], text: &'a [u8]) -> &'a [u8]
     printed
 }
 
-// Says on standard error, behind the program's name, what is wrong and what to do next. Where even that
-// is not taken, there is nobody left to tell.
+// Says on standard error, behind the program's name, what is wrong and what to do next. If that is not taken either, no more is done.
 pub fn complain<'a>(program: &[u8], words: &'a [u8]) -> &'a [u8]
     ensures { λ r. ⌜ HandedOver (now r) (now (words .entry)) ⌝ }
 {
@@ -30,7 +28,7 @@ pub fn complain<'a>(program: &[u8], words: &'a [u8]) -> &'a [u8]
     said
 }
 
-// Hands a text over, whatever part of it is taken at a time, until all is or nothing more.
+// Hands a text over part by part, until all of it is taken, or nothing more is.
 fn hand_over(descriptor: i32, text: &[u8]) -> &[u8]
     ensures { λ r. ⌜ HandedOver (now r) (now (text .entry)) ⌝ }
 {

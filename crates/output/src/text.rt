@@ -1,4 +1,4 @@
-// Pieces of a line: words, and numbers in decimal.
+// Puts the pieces of a line into a lent buffer: words, and numbers in decimal (rule 11.1).
 ghost use Prim.Native.Nat.{min};
 ghost use mathlib.Core.Path.{_≡_};
 ghost use mathlib.Core.List.{[], _∷_};
@@ -9,7 +9,7 @@ ghost use Rattle.output.specs.Put.{Put};
 // No number of 64 bits has more digits in decimal.
 const MOST_DIGITS: usize = 20;
 
-// So many bytes a number takes at most, with the space before it.
+// The most bytes that a number takes, with the space before it.
 pub const MOST_SPACED: usize = 1 + MOST_DIGITS;
 
 // Puts words, or any bytes.
@@ -34,7 +34,7 @@ pub fn put_number(buffer: &mut [u8], at: usize, number: u64) -> usize
     put_words(buffer, at, &digits[..count])
 }
 
-// Puts a number after what stands before it.
+// Puts a number with a space before it.
 pub fn put_spaced(buffer: &mut [u8], at: usize, number: u64) -> usize
     ensures { λ r. ⌜ Put (spaced number) at (now (buffer .entry)) r (now (buffer .exit)) ⌝ }
 {
@@ -42,7 +42,7 @@ pub fn put_spaced(buffer: &mut [u8], at: usize, number: u64) -> usize
     put_number(buffer, at, number)
 }
 
-// Puts one byte.
+// Puts one byte, if the buffer has room for it.
 pub(crate) fn put_byte(buffer: &mut [u8], at: usize, byte: u8) -> usize
     ensures { λ r. ⌜ Put (byte ∷ []) at (now (buffer .entry)) r (now (buffer .exit)) ⌝ }
 {
@@ -53,6 +53,7 @@ pub(crate) fn put_byte(buffer: &mut [u8], at: usize, byte: u8) -> usize
     at + 1
 }
 
+// The smaller of two numbers.
 fn least(a: usize, b: usize) -> usize
     ensures { λ r. ⌜ r ≡ min a b ⌝ }
 {

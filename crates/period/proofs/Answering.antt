@@ -1,4 +1,4 @@
--- The call, step by step: what the settlement and the room in the tables come to is the ruling of the definitions.
+-- The call, step by step: what the settlement and the room in the tables give is the ruling of the definitions.
 use Prim.Native.Nat.{ℕ, _*_, _≤_}
 use mathlib.Core.Path.{_≡_, refl, sym, ap, ap₂, subst, _∙_}
 use mathlib.Core.Bool.{Bool, true, false, cond}
@@ -29,7 +29,7 @@ use Rattle.period.proofs.Refusing.{accepted-told}
 use Rattle.period.proofs.RowsWritten.{rows-length}
 use Rattle.period.proofs.RowsOfAccounts.{plantRowOf, segmentRowOf, plant-rows-are, segment-rows-are, plant-rows-by, segment-rows-by}
 
--- ---- a settlement, with tables of so many numbers
+-- ---- a settlement, with tables of given lengths
 module _ (plantTable segmentTable : ℕ) where
   -- the tests of the tables, for the plants and the segments that it has
   abbrev tableTestsOf : Settlement → List Test
@@ -106,7 +106,7 @@ module _ (plantTable segmentTable : ℕ) where
       by-verdict (refuses number place) = refl
       by-verdict accepts = told-of-tests (tableTestsOf settled) _ _
 
-  -- where that is acceptance, the ruling has the rows
+  -- if that is acceptance, the ruling has the rows
   pub accepted-rows : (settled : Settlement) → rulingVerdict (ruled settled) ≡ accepts → ruled settled ≡ rowsOf settled
   accepted-rows settled = by-verdict (settled .verdict)
     where
@@ -132,7 +132,7 @@ module _ (plantTable segmentTable : ℕ) where
           table-room (announced (length (settled .plants)) (length (settled .segments)) 0) plantTable segmentTable
           (none-fails (tableTestsOf settled) (rowsOf settled) plants segments is)) e
 
--- ---- a file that was settled, and what was answered with tables of so many numbers
+-- ---- a file that was settled, and what was answered with tables of given lengths
 module _
     (file : List ℕ) (r : Settled) (settles : SettlePromise file r) (plantTable segmentTable : ℕ) (answer : Answer)
     (told : said answer ≡ withTables (r .«plant_count») (r .«segment_count») plantTable segmentTable (said (r .answer))) where
@@ -159,7 +159,7 @@ module _
     pub room-is : (plantNumbers * r .«plant_count» ≤ plantTable) × (segmentNumbers * r .«segment_count» ≤ segmentTable)
     room-is = rw (settles .plant-count, settles .segment-count) (accepted-room plantTable segmentTable (settlement file) accepting)
 
--- ---- how many numbers so many rows have
+-- ---- how many numbers the rows have, by their count
 pub plants-long : (columns : PlantAccounts) (count : ℕ) → length (firstRows (plantRowAt columns) count) ≡ plantNumbers * count
 plants-long columns = rows-length (plantRowAt columns) plantNumbers (λ i. refl)
 

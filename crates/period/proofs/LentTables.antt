@@ -90,14 +90,14 @@ module _ {file plants segments : List ℕ} (left : Left file plants segments) wh
   of-segment : (s column : ℕ) → s < S → inRow segmentNumbers s column segments ≡ inRow segmentNumbers s column (rows-left left .segment-numbers)
   of-segment s column segment = ap (λ (row : List ℕ). getD row column 0) (rows-left left .segment-rows s segment)
 
-  -- Proportional part: where the segment's row shows inflow, each plant is credited its proportional part
+  -- Proportional part (rule 13.4): if the segment's row shows inflow, each plant is credited its proportional part
   pub proportional-part-left :
       (s p : ℕ) → s < S → p < P → 0 < inRow segmentNumbers s inflowColumn segments → Credited (turnAt (held file) s) p
   proportional-part-left s p segment plant some =
       proportional-part (rows-left left .accepted-file) s p segment plant
       (rw (inflow-told (rows-left left .accepted-file) s segment, ← of-segment s inflowColumn segment) some)
 
-  -- every plant is sent on with its credit where its route passes, else it stays
+  -- every plant is sent on with its credit if its route passes, else it stays
   pub sent-on-left : (s p : ℕ) → s < S → p < P → SentOn (turnAt (held file) s) p
   sent-on-left = sent-on (rows-left left .accepted-file)
 
@@ -121,7 +121,7 @@ module _ {file plants segments : List ℕ} (left : Left file plants segments) wh
       of-plant p storedColumn plant
       ∙ ap (λ (row : List ℕ). getD row storedColumn 0) (plant-row-at (accepted-means (rows-left left .accepted-file)) p plant)
 
-  -- Credits add up: what the plants bring adds up to the inflow in the segment's row, and their credits to the outflow there, the metered one
+  -- Credits add up (rule 13.5): what the plants bring is the inflow of the segment's row, and their credits are the outflow there, the metered one
   pub credits-add-up-left :
       (s : ℕ) → s < S →
       (sum (entering (turnAt (held file) s)) ≡ inRow segmentNumbers s inflowColumn segments)
@@ -132,7 +132,7 @@ module _ {file plants segments : List ℕ} (left : Left file plants segments) wh
       let out = outflow-told given s segment ∙ sym (of-segment s outflowColumn segment) in
       (inflow-told given s segment ∙ sym (of-segment s inflowColumn segment), out, sym out ∙ credits-add-up given s segment)
 
-  -- Balance: all exports are all that is stored and what every segment lost
+  -- Balance (rule 13.6): all exports are all that is stored and what every segment lost
   pub balance-left :
       columnSum plantNumbers exportedColumn P plants ≡ columnSum plantNumbers storedColumn P plants + columnSum segmentNumbers lossColumn S segments
   balance-left =
@@ -143,7 +143,7 @@ module _ {file plants segments : List ℕ} (left : Left file plants segments) wh
       )
       (balance (rows-left left .accepted-file))
 
-  -- Charges add up: what a segment charges adds up to no less than its emission, and to less than that and one kg for each plant of its set
+  -- Charges add up (rule 13.10): what a segment charges is no less than its emission, and less than that and one kg for each plant of its set
   pub charges-add-up-left :
       (s : ℕ) → s < S →
       AddUp
@@ -155,7 +155,7 @@ module _ {file plants segments : List ℕ} (left : Left file plants segments) wh
       rw (of-segment s emissionColumn segment, of-segment s inflowColumn segment, of-segment s setColumn segment)
       (charges-add-up (rows-left left .accepted-file) s segment)
 
-  -- Charges counted: what is associated with a plant is its own emissions and what each segment charges it
+  -- Charges counted (rule 6.2): what is associated with a plant is its own emissions and what each segment charges it
   pub charges-of-plant-left :
       (p : ℕ) → p < P →
       inRow plantNumbers p associatedColumn plants
@@ -171,7 +171,7 @@ module _ {file plants segments : List ℕ} (left : Left file plants segments) wh
       column-same plantNumbers associatedColumn P (rows-left left .plant-numbers) plants (rows-left left .plant-rows)
       ∙ charges-counted (rows-left left .accepted-file)
 
-  -- Alone on its route: the sets in the segments' rows tell where a plant is alone on its route
+  -- Alone on its route (rule 13.8): the sets in the segments' rows tell that a plant is alone on its route
   pub sets-tell-left : (index : ℕ) → index < P → AloneInRows segments S index → Alone (held file) index
   sets-tell-left index there alone =
       sets-tell (rows-left left .accepted-file) index there .0
@@ -190,7 +190,7 @@ module _
     same-plant-row index below₁ below₂ same =
         rows-left left₂ .plant-rows index below₂ ∙ same ∙ sym (rows-left left₁ .plant-rows index below₁)
 
-    -- Larger line: the period with the larger line gives no plant more units
+    -- Larger line (rule 13.7): the period with the larger line gives no plant more units
     pub larger-line-left :
         OneLineLarger (held file₁) (held file₂) → (index : ℕ) → index < length (held file₁ .plants) →
         inRow plantNumbers index unitsColumn plants₂ ≤ inRow plantNumbers index unitsColumn plants₁
@@ -198,7 +198,7 @@ module _
         rw (of-plant left₂ index unitsColumn (rw (larger .plants) below), of-plant left₁ index unitsColumn below)
         (larger-line (rows-left left₁ .accepted-file) (rows-left left₂ .accepted-file) larger index below)
 
-    -- Alone on its route: a plant that is alone on its route in both, and the same, has the same row
+    -- Alone on its route (rule 13.8): a plant that is alone on its route in both, and the same, has the same row
     pub alone-on-its-route-left :
         (index : ℕ) → index < length (held file₁ .plants) → index < length (held file₂ .plants) → SameFor index (held file₁) (held file₂) →
         Alone (held file₁) index → Alone (held file₂) index → rowAt plantNumbers index plants₂ ≡ rowAt plantNumbers index plants₁
@@ -206,7 +206,7 @@ module _
         same-plant-row index there₁ there₂
         (alone-on-its-route (rows-left left₁ .accepted-file) (rows-left left₂ .accepted-file) index there₁ there₂ same alone₁ alone₂)
 
-    -- also where the sets in the segments' rows tell that it is alone
+    -- also if the sets in the segments' rows tell that it is alone
     pub alone-by-sets-left :
         (index : ℕ) → index < length (held file₁ .plants) → index < length (held file₂ .plants) → SameFor index (held file₁) (held file₂) →
         AloneInRows segments₁ (length (held file₁ .segments)) index → AloneInRows segments₂ (length (held file₂ .segments)) index →
@@ -214,7 +214,7 @@ module _
     alone-by-sets-left index there₁ there₂ same alone₁ alone₂ =
         alone-on-its-route-left index there₁ there₂ same (sets-tell-left left₁ index there₁ alone₁) (sets-tell-left left₂ index there₂ alone₂)
 
-    -- Other plants' fractions and lines: they do not change the row of the plant that stays the same
+    -- Other plants' fractions and lines (rule 13.9): they do not change the row of the plant that stays the same
     pub others-fraction-and-lines-left :
         (index : ℕ) → index < length (held file₁ .plants) → OthersOwn index (held file₁) (held file₂) →
         rowAt plantNumbers index plants₂ ≡ rowAt plantNumbers index plants₁

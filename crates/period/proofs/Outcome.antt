@@ -3,11 +3,9 @@ use Prim.Native.Nat.{ℕ}
 use mathlib.Core.Path.{_≡_, sym, ap, _∙_}
 use mathlib.Core.List.{List}
 use Rattle.fields.specs.declared.answer.Answer.{Answer}
-use Rattle.fields.specs.Answers.{said}
 use Rattle.fields.proofs.Outcome.{said-once}
-use Rattle.accounts.specs.Rows.{plantRow, segmentRow}
 use Rattle.period.specs.declared.call.Quantified.{Quantified}
-use Rattle.period.specs.Written.{withTables, Lent, QuantifyPromise}
+use Rattle.period.specs.Written.{Lent, QuantifyPromise, AnswerWithTablesPromise, PlantRowPromise, SegmentRowPromise}
 
 -- an answer by its fields
 abbrev made : Answer → ℕ → ℕ → Quantified
@@ -27,13 +25,17 @@ one-outcome file tables r s tables₁ tables₂ p q = (
 
 -- `answer_with_tables`, `plant_row` and `segment_row`: their promises give the result itself
 pub one-answer :
-    (plants segments plantTable segmentTable : ℕ) (settled r s : Answer) → said r ≡ withTables plants segments plantTable segmentTable (said settled) →
-    said s ≡ withTables plants segments plantTable segmentTable (said settled) → r ≡ s
-one-answer plants segments plantTable segmentTable settled r s p q = said-once r s (p ∙ sym q)
+    (settled : Answer) (plants segments plantTable segmentTable : ℕ) (r s : Answer) →
+    AnswerWithTablesPromise settled plants segments plantTable segmentTable r →
+    AnswerWithTablesPromise settled plants segments plantTable segmentTable s → r ≡ s
+one-answer settled plants segments plantTable segmentTable r s p q = said-once r s (p ∙ sym q)
 
 pub one-plant-row :
-    (exported fraction stored associated : ℕ) (r s : List ℕ) → r ≡ plantRow exported fraction stored associated → s ≡ plantRow exported fraction stored associated → r ≡ s
+    (exported fraction stored associated : ℕ) (r s : List ℕ) → PlantRowPromise exported fraction stored associated r →
+    PlantRowPromise exported fraction stored associated s → r ≡ s
 one-plant-row exported fraction stored associated r s p q = p ∙ sym q
 
-pub one-segment-row : (inflow outflow emission plants : ℕ) (r s : List ℕ) → r ≡ segmentRow inflow outflow emission plants → s ≡ segmentRow inflow outflow emission plants → r ≡ s
+pub one-segment-row :
+    (inflow outflow emission plants : ℕ) (r s : List ℕ) → SegmentRowPromise inflow outflow emission plants r →
+    SegmentRowPromise inflow outflow emission plants s → r ≡ s
 one-segment-row inflow outflow emission plants r s p q = p ∙ sym q

@@ -1,5 +1,5 @@
--- The call refuses a file exactly for the first of 01's reasons that holds, and then leaves both tables as they were; it accepts exactly
--- where none holds. `specs/AllTests.antt` of the accounts lists the reasons as tests, each at its place, in 01's order.
+-- The call refuses a file exactly for the first reason that holds, and then leaves both tables as they were; it accepts exactly
+-- if none holds (rules 13.2 and 13.3). `specs/AllTests.antt` of `accounts` lists the reasons as tests, each at its place, in order.
 use Prim.Native.Nat.{ℕ}
 use mathlib.Core.Path.{_≡_, refl, sym, ap, _∙_}
 use mathlib.Core.List.{List}
@@ -30,7 +30,7 @@ accepted-told (accepted plants segments) Claim then e = then plants segments ref
 
 -- ---- the call, lent two tables
 module _ {file : List ℕ} {tables : Lent} {r : Quantified} {tables' : Lent} (promised : QuantifyPromise file tables r tables') where
-  -- the ruling of the definitions, and 01's tests
+  -- the ruling of the definitions, and all tests
   abbrev ruling : Ruling
   ruling = rulingOn file tables
 

@@ -1,4 +1,4 @@
--- The room in the tables: what its tests come to.
+-- The room in the tables: what its tests give.
 use Prim.Native.Nat.{ℕ, _*_, _≤_, _<_}
 use mathlib.Core.Path.{_≡_, refl}
 use borrow.Author.Tests.{lt-ltb, le-ltb}

@@ -14,7 +14,7 @@ use Rattle.period.specs.Written.{firstRows}
 
 -- ---- rows of n numbers, one behind another
 module _ (n : ℕ) (rows : ℕ → List ℕ) (count : ℕ) (entry : List ℕ) where
-  -- k of so many rows are written, and behind them the table is as it was
+  -- k of all rows are written, and behind them the table is as it was
   pub record Writing (table : List ℕ) (k : ℕ) : Type 0 where
     pub enough : n * count ≤ length entry
     pub within : k ≤ count

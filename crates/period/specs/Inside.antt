@@ -3,6 +3,6 @@ use Rattle.fields.specs.declared.answer.Answer.the-variants.{Refused}
 use Rattle.fields.specs.declared.answer.Refusal.{Refusal}
 use Rattle.period.specs.declared.call.Quantified.{Quantified}
 
--- the call's answer to a refused file
+-- The call's answer to a refused file (rule 10.3).
 abbrev pub nothingWritten : Refusal → Quantified
 nothingWritten why = record { answer = Refused why; «plant_numbers» = 0; «segment_numbers» = 0 }

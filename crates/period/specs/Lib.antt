@@ -1,3 +1,3 @@
--- The rows by their accounts, the room in the tables; what the call answers in the terms of the accounts' definitions.
+-- The rows by their accounts, the room in the tables, and what the call answers by the definitions of `accounts`.
 pub mod Written
 pub mod Inside

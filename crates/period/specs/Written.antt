@@ -3,6 +3,7 @@ use Prim.Native.Nat.{ℕ}
 use mathlib.Core.Path.{_≡_}
 use mathlib.Core.List.{List, [], _++_, flatMap}
 use lib.ListN.{length, drop, getD}
+use Rattle.fields.specs.declared.answer.Answer.{Answer}
 use Rattle.fields.specs.declared.answer.Answer.the-variants.{Accepted}
 use Rattle.fields.specs.Answers.{Verdict, accepts, refuses, said}
 use Rattle.fields.specs.Tests.{testedBy, listed}
@@ -15,7 +16,7 @@ use Rattle.settling.specs.declared.account.SegmentAccounts.{SegmentAccounts}
 use Rattle.period.specs.declared.call.Quantified.{Quantified}
 
 -- ---- the parts
--- The row of the plant at an index, by the columns of the accounts, and of a segment.
+-- The row of the plant at an index, by the columns of the accounts, and below of a segment (rules 7.1 and 7.2).
 abbrev pub plantRowAt : PlantAccounts → ℕ → List ℕ
 plantRowAt accounts p =
     plantRow (getD (accounts .exported) p 0) (getD (accounts .fraction) p 0) (getD (accounts .stored) p 0) (getD (accounts .associated) p 0)
@@ -24,18 +25,27 @@ abbrev pub segmentRowAt : SegmentAccounts → ℕ → List ℕ
 segmentRowAt accounts s =
     segmentRow (getD (accounts .inflow) s 0) (getD (accounts .outflow) s 0) (getD (accounts .emission) s 0) (getD (accounts .plants) s 0)
 
--- So many rows, one after another.
+-- The first `count` rows, one after another (rule 10.2).
 abbrev pub firstRows : (ℕ → List ℕ) → ℕ → List ℕ
 firstRows row count = flatMap row (listed (λ (i : ℕ). i) 0 count)
 
--- The verdict on a file that was settled, for so many plants and segments, with tables of so many numbers: 14 and 15 come last of all.
+-- The verdict on a settled file, with these counts of plants and segments and tables of these lengths: 14 and 15 come last (rule 8.7).
 abbrev pub withTables : (plants segments plantTable segmentTable : ℕ) → Verdict → Verdict
 withTables plants segments plantTable segmentTable (refuses number place) = refuses number place
 withTables plants segments plantTable segmentTable accepts = testedBy refuses (tableTests (announced plants segments 0) plantTable segmentTable) accepts
 
--- ---- the call
+-- What `plant_row`, `segment_row` and `answer_with_tables` promise (rules 7.1, 7.2 and 8.7).
+abbrev pub PlantRowPromise : (exported fraction stored associated : ℕ) → List ℕ → Type 0
+PlantRowPromise exported fraction stored associated r = r ≡ plantRow exported fraction stored associated
 
--- The two tables that a caller lends.
+abbrev pub SegmentRowPromise : (inflow outflow emission plants : ℕ) → List ℕ → Type 0
+SegmentRowPromise inflow outflow emission plants r = r ≡ segmentRow inflow outflow emission plants
+
+abbrev pub AnswerWithTablesPromise : (settled : Answer) (plants segments plantTable segmentTable : ℕ) → Answer → Type 0
+AnswerWithTablesPromise settled plants segments plantTable segmentTable r = said r ≡ withTables plants segments plantTable segmentTable (said settled)
+
+-- ---- the call
+-- The two tables that a caller lends (rule 10.1).
 pub record Lent : Type 0 where
   pub plants : List ℕ
   pub segments : List ℕ
@@ -43,16 +53,16 @@ pub record Lent : Type 0 where
 abbrev pub lent : (plants segments : List ℕ) → Lent
 lent plants segments = record { plants = plants; segments = segments }
 
--- The ruling on a file, with these tables.
+-- The ruling on a file, with tables as long as these (rule 13.3).
 abbrev pub rulingOn : List ℕ → Lent → Ruling
 rulingOn file tables = quantified file (length (tables .plants)) (length (tables .segments))
 
--- What a ruling says to the caller: that the file is accepted, or the number and place of its refusal.
+-- What a ruling says to the caller: that the file is accepted, or the number and place of its refusal (rule 8.1).
 abbrev pub rulingVerdict : Ruling → Verdict
 rulingVerdict (refusal number place) = refuses number place
 rulingVerdict (accepted plants segments) = accepts
 
--- The numbers that it has for each table: none where it refuses.
+-- The numbers that a ruling has for each table: none if it refuses (rules 10.2 and 10.3).
 abbrev pub plantEntries : Ruling → List ℕ
 plantEntries (refusal number place) = []
 plantEntries (accepted plants segments) = plants
@@ -61,26 +71,26 @@ abbrev pub segmentEntries : Ruling → List ℕ
 segmentEntries (refusal number place) = []
 segmentEntries (accepted plants segments) = segments
 
--- Numbers are written from the start of a table, and what stands behind them stays.
+-- Numbers are written from the start of a table, and what stands behind them stays (rule 10.2).
 abbrev pub overwritten : List ℕ → List ℕ → List ℕ
 overwritten numbers table = numbers ++ drop (length numbers) table
 
--- What the tables hold afterwards.
+-- What the tables hold after a ruling: a refusal writes nothing (rules 10.2, 10.3 and 13.2).
 abbrev pub lentAfter : Ruling → Lent → Lent
 lentAfter ruling tables = lent (overwritten (plantEntries ruling) (tables .plants)) (overwritten (segmentEntries ruling) (tables .segments))
 
--- What the call hands back: the verdict, and how many numbers of each table are written.
+-- What the call hands back: the verdict, and how many numbers of each table are written (rule 10.1).
 pub record HandsBack (r : Quantified) (ruling : Ruling) : Type 0 where
   pub verdict : said (r .answer) ≡ rulingVerdict ruling
   pub plants : r .«plant_numbers» ≡ length (plantEntries ruling)
   pub segments : r .«segment_numbers» ≡ length (segmentEntries ruling)
 
--- The promise of the call: what it hands back and leaves in the two tables, for a file and the tables as they were.
+-- The promise of `quantify`: what it hands back and what it leaves in the two tables, for every file and all tables (rules 10.1 and 13.1).
 pub record QuantifyPromise (file : List ℕ) (tables : Lent) (r : Quantified) (tables' : Lent) : Type 0 where
   pub hands-back : HandsBack r (rulingOn file tables)
   pub leaves : tables' ≡ lentAfter (rulingOn file tables) tables
 
--- The call was lent some tables, accepted the file, and left these.
+-- A call was lent some tables, accepted the file, and left these (rule 10.7).
 pub record Left (file plants segments : List ℕ) : Type 0 where
   pub before : Lent
   pub told : Quantified

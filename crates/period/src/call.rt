@@ -1,4 +1,4 @@
-// The call: a period file and two lent tables in, the answer out, and the rows in the tables.
+// The call: a period file and two lent tables in, the answer out, and the rows in the tables (rules 8.8 and 10.1 to 10.4).
 ghost use mathlib.Core.Path.{_≡_};
 ghost use Rattle.period.specs.Written.{lent, QuantifyPromise};
 ghost use Rattle.period.specs.Inside.{nothingWritten};
@@ -11,16 +11,14 @@ use fields::Answer;
 use fields::Refusal;
 use settling::settle;
 
-// The answer to a period file, and how many numbers of each table were written: none where the file is
-// refused.
+// The answer to a period file, and how many numbers of each table were written: none if the file is refused (rules 10.1 to 10.3).
 pub struct Quantified {
     pub answer: Answer,
     pub plant_numbers: usize,
     pub segment_numbers: usize,
 }
 
-// Answers a file of any length and content, with tables of any lengths. A refusal leaves both tables
-// as they were; acceptance writes the rows from their start, and later entries stay.
+// Answers any file with any tables: a refusal leaves both alone; acceptance writes the rows from their start (rules 8.8 and 10.1 to 10.4).
 pub fn quantify(file: &[u8], plant_table: &mut [u64], segment_table: &mut [u64]) -> Quantified
     ensures { λ r. ⌜ QuantifyPromise (now (file .entry)) (lent (now («plant_table» .entry)) (now («segment_table» .entry))) r (lent (now («plant_table» .exit)) (now («segment_table» .exit))) ⌝ }
 {
@@ -42,10 +40,12 @@ pub fn quantify(file: &[u8], plant_table: &mut [u64], segment_table: &mut [u64])
     write_plants(plant_table, plant_accounts, plants as usize);
     let segment_accounts = settled.segments;
     write_segments(segment_table, segment_accounts, segments as usize);
+    let plant_numbers = PLANT_NUMBERS * plants as usize;
+    let segment_numbers = SEGMENT_NUMBERS * segments as usize;
     Quantified {
         answer,
-        plant_numbers: PLANT_NUMBERS * plants as usize,
-        segment_numbers: SEGMENT_NUMBERS * segments as usize,
+        plant_numbers,
+        segment_numbers,
     }
 }
 

@@ -1,14 +1,11 @@
-// The room in the tables, which is tested last of all.
-ghost use mathlib.Core.Path.{_≡_};
-ghost use Rattle.fields.specs.Answers.{said};
-ghost use Rattle.period.specs.Written.{withTables};
+// The room in the tables, which is tested last of all (rule 8.7).
+ghost use Rattle.period.specs.Written.{AnswerWithTablesPromise};
 use crate::rows::PLANT_NUMBERS;
 use crate::rows::SEGMENT_NUMBERS;
 use fields::Answer;
 use fields::Reason;
 
-// The answer to a file that was settled, for so many plants and segments, with tables of so many
-// numbers.
+// The answer to a file that was settled, with these counts of plants and segments and tables of these lengths (rule 8.7).
 pub fn answer_with_tables(
     settled: Answer,
     plants: u32,
@@ -16,7 +13,7 @@ pub fn answer_with_tables(
     plant_table: usize,
     segment_table: usize,
 ) -> Answer
-    ensures { λ r. ⌜ said r ≡ withTables plants segments «plant_table» «segment_table» (said settled) ⌝ }
+    ensures { λ r. ⌜ AnswerWithTablesPromise settled plants segments «plant_table» «segment_table» r ⌝ }
 {
     if let Answer::Refused(_refusal) = settled {
         return settled;

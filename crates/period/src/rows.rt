@@ -1,29 +1,28 @@
-// The rows of plants and segments: the columns of each, and how they are written into a table of numbers.
+// The rows of plants and segments, and how they are written into a table of numbers (rules 7.1, 7.2 and 10.2).
 ghost use mathlib.Core.Path.{_≡_};
 ghost use mathlib.Core.List.{_++_};
 ghost use Prim.Native.Nat.{_+_, _-_, _*_, _≤_};
 ghost use lib.ListN.{length, take, drop};
 ghost use Rattle.records.specs.Plants.{mostPlants};
 ghost use Rattle.records.specs.Segments.{mostSegments};
-ghost use Rattle.accounts.specs.Rows.{plantRow, segmentRow};
 ghost use Rattle.accounts.specs.Order.{plantNumbers, segmentNumbers};
-ghost use Rattle.period.specs.Written.{firstRows, plantRowAt, segmentRowAt};
+ghost use Rattle.period.specs.Written.{firstRows, PlantRowPromise, plantRowAt, SegmentRowPromise, segmentRowAt};
 use records::Plant;
 use records::Segment;
 use settling::PlantAccounts;
 use settling::SegmentAccounts;
 
-// The numbers of a plant's row and of a segment's.
+// How many numbers a plant's row has, and a segment's (rules 7.1 and 7.2).
 pub const PLANT_NUMBERS: usize = 8;
 
 pub const SEGMENT_NUMBERS: usize = 5;
 
-// A unit is a tonne.
+// A unit is a tonne (rule 7.1).
 const KG_IN_UNIT: u64 = 1000;
 
-// A plant's row.
+// A plant's row (rule 7.1).
 pub fn plant_row(exported: u32, fraction: u32, stored: u32, associated: u64) -> [u64; PLANT_NUMBERS]
-    ensures { λ r. ⌜ r ≡ plantRow exported fraction stored associated ⌝ }
+    ensures { λ r. ⌜ PlantRowPromise exported fraction stored associated r ⌝ }
 {
     let exported = exported as u64;
     let stored = stored as u64;
@@ -41,9 +40,9 @@ pub fn plant_row(exported: u32, fraction: u32, stored: u32, associated: u64) -> 
     ]
 }
 
-// A segment's row.
+// A segment's row (rule 7.2).
 pub fn segment_row(inflow: u32, outflow: u32, emission: u64, plants: u32) -> [u64; SEGMENT_NUMBERS]
-    ensures { λ r. ⌜ r ≡ segmentRow inflow outflow emission plants ⌝ }
+    ensures { λ r. ⌜ SegmentRowPromise inflow outflow emission plants r ⌝ }
 {
     let inflow = inflow as u64;
     let outflow = outflow as u64;
@@ -56,14 +55,14 @@ pub fn segment_row(inflow: u32, outflow: u32, emission: u64, plants: u32) -> [u6
     ]
 }
 
-// m − n, and 0 where n is the larger.
+// m − n, and 0 if n is the larger.
 fn excess(m: u64, n: u64) -> u64
     ensures { λ r. ⌜ r ≡ m - n ⌝ }
 {
     if m < n { 0 } else { m - n }
 }
 
-// Writes the rows of so many plants, one after another.
+// Writes the rows of `count` plants, one after another (rule 10.2).
 pub(crate) fn write_plants(table: &mut [u64], accounts: PlantAccounts, count: usize)
     requires { ⌜ count ≤ mostPlants ⌝ }
     requires { ⌜ plantNumbers * count ≤ length (now table) ⌝ }
@@ -82,7 +81,7 @@ pub(crate) fn write_plants(table: &mut [u64], accounts: PlantAccounts, count: us
     }
 }
 
-// Writes the rows of so many segments, one after another.
+// Writes the rows of `count` segments, one after another (rule 10.2).
 pub(crate) fn write_segments(table: &mut [u64], accounts: SegmentAccounts, count: usize)
     requires { ⌜ count ≤ mostSegments ⌝ }
     requires { ⌜ segmentNumbers * count ≤ length (now table) ⌝ }

@@ -5,14 +5,9 @@ use mathlib.Core.Bool.{true≢false}
 use mathlib.Core.List.{List}
 use Rattle.fields.specs.declared.answer.Answer.{Answer}
 use Rattle.fields.specs.declared.spot.Spot.{Spot}
-use Rattle.fields.specs.Answers.{said}
-use Rattle.fields.specs.Spots.{firstSpot}
-use Rattle.fields.specs.Reaching.{readsFrom}
 use Rattle.fields.proofs.Outcome.{refusal-once, said-once}
 use Rattle.records.specs.declared.counts.Counts.{Counts}
 use Rattle.records.specs.declared.header.Header.{Header}
-use Rattle.records.specs.Headers.{header, headerOf}
-use Rattle.records.specs.Periods.{plant, segment, line, periodVerdict}
 use Rattle.reading.specs.declared.header.ReadHeader.{ReadHeader}
 use Rattle.reading.specs.declared.header.ReadHeader.the-variants as ReadHeader
 use Rattle.reading.specs.declared.plants.ReadPlant.{ReadPlant}
@@ -21,7 +16,7 @@ use Rattle.reading.specs.declared.segments.ReadSegment.{ReadSegment}
 use Rattle.reading.specs.declared.segments.ReadSegment.the-variants as ReadSegment
 use Rattle.reading.specs.declared.lines.ReadLine.{ReadLine}
 use Rattle.reading.specs.declared.lines.ReadLine.the-variants as ReadLine
-use Rattle.reading.specs.Found.{headerFound, plantFound, segmentFound, lineFound}
+use Rattle.reading.specs.Found.{headerFound, plantFound, segmentFound, lineFound, ReadHeaderPromise, HeaderOfPromise, ReadPlantPromise, ReadSegmentPromise, ReadLinePromise, VerdictPromise}
 
 -- ---- what was found, of the header or where a record starts, determines the answer
 header-once : (a b : ReadHeader) → headerFound a ≡ headerFound b → a ≡ b
@@ -49,27 +44,24 @@ line-once (ReadLine.Refused a) (ReadLine.Whole other next') e = absurd (true≢f
 line-once (ReadLine.Refused a) (ReadLine.Refused b) e = ap ReadLine.Refused (refusal-once a b (cc) (cc))
 
 -- `read_header`: two answers that meet its promise, of one file, are the same
-pub one-header-read :
-    (file : List ℕ) (r s : ReadHeader) → headerFound r ≡ readsFrom header file firstSpot → headerFound s ≡ readsFrom header file firstSpot → r ≡ s
+pub one-header-read : (file : List ℕ) (r s : ReadHeader) → ReadHeaderPromise file r → ReadHeaderPromise file s → r ≡ s
 one-header-read file r s p q = header-once r s (p ∙ sym q)
 
 -- `read_plant`, `read_segment` and `read_line`: so are two of their answers, of one file at one spot and by one header's counts
 module _ (file : List ℕ) (start : Spot) (counts : Counts) where
-  pub one-plant : (r s : ReadPlant) → plantFound r ≡ readsFrom (plant counts) file start → plantFound s ≡ readsFrom (plant counts) file start → r ≡ s
+  pub one-plant : (r s : ReadPlant) → ReadPlantPromise file start counts r → ReadPlantPromise file start counts s → r ≡ s
   one-plant r s p q = plant-once r s (p ∙ sym q)
 
-  pub one-segment :
-      (own : ℕ) (r s : ReadSegment) → segmentFound r ≡ readsFrom (segment counts own) file start →
-      segmentFound s ≡ readsFrom (segment counts own) file start → r ≡ s
+  pub one-segment : (own : ℕ) (r s : ReadSegment) → ReadSegmentPromise file start own counts r → ReadSegmentPromise file start own counts s → r ≡ s
   one-segment own r s p q = segment-once r s (p ∙ sym q)
 
-  pub one-line : (r s : ReadLine) → lineFound r ≡ readsFrom (line counts) file start → lineFound s ≡ readsFrom (line counts) file start → r ≡ s
+  pub one-line : (r s : ReadLine) → ReadLinePromise file start counts r → ReadLinePromise file start counts s → r ≡ s
   one-line r s p q = line-once r s (p ∙ sym q)
 
 -- `verdict`: so are two of its answers, of one file
-pub one-verdict : (file : List ℕ) (r s : Answer) → said r ≡ periodVerdict file → said s ≡ periodVerdict file → r ≡ s
+pub one-verdict : (file : List ℕ) (r s : Answer) → VerdictPromise file r → VerdictPromise file s → r ≡ s
 one-verdict file r s p q = said-once r s (p ∙ sym q)
 
 -- `header_of`: its promise gives the result itself
-pub one-header : (file : List ℕ) (r s : Header) → r ≡ headerOf file → s ≡ headerOf file → r ≡ s
+pub one-header : (file : List ℕ) (r s : Header) → HeaderOfPromise file r → HeaderOfPromise file s → r ≡ s
 one-header file r s p q = p ∙ sym q

@@ -1,9 +1,5 @@
-// The header, read number by number.
-ghost use mathlib.Core.Path.{_≡_};
-ghost use Rattle.fields.specs.Spots.{firstSpot};
-ghost use Rattle.fields.specs.Reaching.{readsFrom};
-ghost use Rattle.records.specs.Headers.{header, headerOf};
-ghost use Rattle.reading.specs.Found.{headerFound};
+// The header, read number by number (rules 2.3 and 8.3).
+ghost use Rattle.reading.specs.Found.{HeaderOfPromise, ReadHeaderPromise};
 use fields::Refusal;
 use fields::Spot;
 use fields::Taken;
@@ -17,9 +13,9 @@ pub enum ReadHeader {
     Refused(Refusal),
 }
 
-// Reads the header, at the start of the file: each number is tested before the next one is taken.
+// Reads the header at the start of the file: each number is tested before the next one is taken (rules 2.3 and 8.3).
 pub fn read_header(file: &[u8]) -> ReadHeader
-    ensures { λ r. ⌜ headerFound r ≡ readsFrom header (now (file .entry)) firstSpot ⌝ }
+    ensures { λ r. ⌜ ReadHeaderPromise (now (file .entry)) r ⌝ }
 {
     let mut values = [0u64; Header::FIELDS];
     let mut at = Spot::first();
@@ -45,9 +41,9 @@ pub fn read_header(file: &[u8]) -> ReadHeader
     ReadHeader::Whole(counts, at)
 }
 
-// What the header of a file tells, whatever stands behind it.
+// What the header of a file tells, whatever is behind it (rules 2.3 and 11.5).
 pub fn header_of(file: &[u8]) -> Header
-    ensures { λ r. ⌜ r ≡ headerOf (now (file .entry)) ⌝ }
+    ensures { λ r. ⌜ HeaderOfPromise (now (file .entry)) r ⌝ }
 {
     match read_header(file) {
         ReadHeader::Refused(_refusal) => Header::TellsNothing,

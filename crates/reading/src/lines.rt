@@ -1,13 +1,11 @@
-// The emission lines of a file, one record after another.
+// The lines of a file, one record after another (rules 2.8, 3.2 and 8.3).
 ghost use mathlib.Core.Path.{_≡_};
 ghost use Prim.Native.Nat.{_≤_};
 ghost use lib.ListN.{length};
 ghost use Rattle.number.specs.Groups.{largest};
-ghost use Rattle.fields.specs.Reaching.{readsFrom};
 ghost use Rattle.records.specs.Classes.{classes, segmentOwner};
 ghost use Rattle.records.specs.Lines.{largestFactor, lineOf};
-ghost use Rattle.records.specs.Periods.{line};
-ghost use Rattle.reading.specs.Found.{lineFound};
+ghost use Rattle.reading.specs.Found.{ReadLinePromise};
 use fields::Reason;
 use fields::Refusal;
 use fields::Spot;
@@ -22,10 +20,9 @@ pub enum ReadLine {
     Refused(Refusal),
 }
 
-// Reads the record that starts at a spot, in a file that announces so many plants and segments: each
-// number is tested before the next one is taken. Any spot and any counts may be asked.
+// Reads the record at a spot: each number is tested before the next one is taken (rules 2.8, 3.2 and 8.3). Any spot and counts may be given.
 pub fn read_line(file: &[u8], start: Spot, counts: Counts) -> ReadLine
-    ensures { λ r. ⌜ lineFound r ≡ readsFrom (line counts) (now (file .entry)) start ⌝ }
+    ensures { λ r. ⌜ ReadLinePromise (now (file .entry)) start counts r ⌝ }
 {
     let mut values = [0u64; Line::FIELDS];
     let mut at = start;

@@ -1,11 +1,9 @@
-// The plants of a file, one record after another.
+// The plants of a file, one record after another (rules 2.4 and 8.3).
 ghost use mathlib.Core.Path.{_≡_};
 ghost use Prim.Native.Nat.{_≤_};
 ghost use Rattle.number.specs.Groups.{largest};
-ghost use Rattle.fields.specs.Reaching.{readsFrom};
 ghost use Rattle.records.specs.Plants.{millionths, plantOf};
-ghost use Rattle.records.specs.Periods.{plant};
-ghost use Rattle.reading.specs.Found.{plantFound};
+ghost use Rattle.reading.specs.Found.{ReadPlantPromise};
 use fields::Reason;
 use fields::Refusal;
 use fields::Spot;
@@ -20,9 +18,9 @@ pub enum ReadPlant {
     Refused(Refusal),
 }
 
-// Reads the record that starts at a spot: each number is tested before the next one is taken.
+// Reads the record at a spot: each number is tested before the next one is taken (rules 2.4 and 8.3). Any spot and counts may be given.
 pub fn read_plant(file: &[u8], start: Spot, counts: Counts) -> ReadPlant
-    ensures { λ r. ⌜ plantFound r ≡ readsFrom (plant counts) (now (file .entry)) start ⌝ }
+    ensures { λ r. ⌜ ReadPlantPromise (now (file .entry)) start counts r ⌝ }
 {
     let mut values = [0u64; Plant::FIELDS];
     let mut at = start;

@@ -1,11 +1,9 @@
-// The segments of a file, one record after another.
+// The segments of a file, one record after another (rules 2.5 to 2.7 and 8.3).
 ghost use mathlib.Core.Path.{_≡_};
 ghost use Prim.Native.Nat.{_≤_};
 ghost use Rattle.number.specs.Groups.{largest};
-ghost use Rattle.fields.specs.Reaching.{readsFrom};
 ghost use Rattle.records.specs.Segments.{segmentOf, store};
-ghost use Rattle.records.specs.Periods.{segment};
-ghost use Rattle.reading.specs.Found.{segmentFound};
+ghost use Rattle.reading.specs.Found.{ReadSegmentPromise};
 use fields::Reason;
 use fields::Refusal;
 use fields::Spot;
@@ -20,10 +18,9 @@ pub enum ReadSegment {
     Refused(Refusal),
 }
 
-// Reads the record of the segment with its own number, which starts at a spot: each number is tested
-// before the next one is taken.
+// Reads the record at a spot, by its own number: each number is tested before the next one is taken (rules 2.5 to 2.7 and 8.3).
 pub fn read_segment(file: &[u8], start: Spot, own: u64, counts: Counts) -> ReadSegment
-    ensures { λ r. ⌜ segmentFound r ≡ readsFrom (segment counts own) (now (file .entry)) start ⌝ }
+    ensures { λ r. ⌜ ReadSegmentPromise (now (file .entry)) start own counts r ⌝ }
 {
     let mut values = [0u64; Segment::FIELDS];
     let mut at = start;

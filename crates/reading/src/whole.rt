@@ -1,8 +1,7 @@
-// What reading says of a file, where no record of it is wanted.
-ghost use mathlib.Core.Path.{_≡_};
-ghost use Rattle.fields.specs.Answers.{said};
+// What reading says of a file, if none of its records is needed (rules 8.1 to 8.4).
 ghost use Rattle.fields.specs.Reaching.{readsFrom};
-ghost use Rattle.records.specs.Periods.{linesOf, periodVerdict, plantsOf, segmentsOf};
+ghost use Rattle.records.specs.Periods.{linesOf, plantsOf, segmentsOf};
+ghost use Rattle.reading.specs.Found.{VerdictPromise};
 ghost use Rattle.reading.specs.Inside.{PassedOver};
 use crate::header::ReadHeader;
 use crate::header::read_header;
@@ -18,16 +17,15 @@ use fields::Spot;
 use fields::nothing_after;
 use records::Counts;
 
-// All records of a kind, as many as the header announced, and where the next one starts; or why the file is
-// refused.
+// All records of a kind are read, and where the next record starts; or why the file is refused.
 pub enum ReadRecords {
     Whole(Spot),
     Refused(Refusal),
 }
 
-// Whether a file of any length and any content is read to its end, or why it is refused (1 to 9).
+// Whether a file, whatever its bytes are, is read to its end, or why it is refused: 1 to 9 (rules 8.1 to 8.4).
 pub fn verdict(file: &[u8]) -> Answer
-    ensures { λ r. ⌜ said r ≡ periodVerdict (now (file .entry)) ⌝ }
+    ensures { λ r. ⌜ VerdictPromise (now (file .entry)) r ⌝ }
 {
     match read_header(file) {
         ReadHeader::Refused(refusal) => Answer::Refused(refusal),
@@ -44,7 +42,7 @@ pub fn verdict(file: &[u8]) -> Answer
     }
 }
 
-// Reads as many plants as the header announced, of which the first starts at a spot, and keeps none.
+// Reads as many plants as the header says, of which the first starts at a spot, and keeps none (rule 2.2).
 fn pass_plants(file: &[u8], start: Spot, counts: Counts) -> ReadRecords
     ensures { λ r. ⌜ PassedOver r (readsFrom (plantsOf counts) (now (file .entry)) start) ⌝ }
 {

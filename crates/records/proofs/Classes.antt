@@ -29,7 +29,7 @@ same false false t = refl
 same true false t = absurd t
 same false true t = absurd t
 
--- so says the row of each code, whatever stands past the table
+-- so says the row of each code, whatever is past the table
 row-says :
     (says : Class → Bool) (ownerKind : ℕ) → T (throughout (right says ownerKind) firstCode classes) →
     (code : ℕ) (other : Class) → firstCode ≤ code → code ≤ length classes → says (getD classes (code - firstCode) other) ≡ classAllowed ownerKind code
@@ -49,7 +49,7 @@ pub segment-row : (code : ℕ) (other : Class) → firstCode ≤ code → code �
 unfolding right classes classAllowed
 segment-row = row-says (λ (class : Class). class .segment) segmentOwner tt
 
--- what stands past the table
+-- what is past the table
 abbrev pub noClass : Class
 noClass = record { code = 0; equation = 0; «last_equation» = 0; plant = false; segment = false }
 

@@ -1,4 +1,4 @@
--- What the tests of fields come to, each from the facts that decide it.
+-- What the tests of fields give, each by the facts that decide it.
 use Prim.Native.Nat.{ℕ, suc, _≤_, _<_}
 use mathlib.Core.Path.{_≡_, refl, sym, _∙_}
 use mathlib.Core.Bool.{Bool, true, false, _&&_, or-false}
@@ -76,7 +76,7 @@ module _ (counts : Counts) (ownerKind owner : ℕ) where
   pub owner-neither : (ownerKind ≡ plantOwner → ⊥) → (ownerKind ≡ segmentOwner → ⊥) → ownerAllowed counts ownerKind owner ≡ false
   owner-neither p q = rw (ne-eqb ownerKind plantOwner p, ne-eqb ownerKind segmentOwner q) refl
 
--- ---- what they are where the test passed: the next segment, by the kind
+-- ---- what they are if the test passed: the next segment, by the kind
 pub next-is :
     (counts : Counts) (own kind next : ℕ) → kindAllowed kind ≡ true → nextAllowed counts own kind next ≡ true →
     (next ≡ 0) ⊎ ((own < next) × (next ≤ counts .segments))

@@ -1,4 +1,4 @@
--- The fields of the header by their index: with which reasons it wants its numbers, what each is tested for, and the counts that they make.
+-- The fields of the header by their index: with which reasons it needs its numbers, what each is tested for, and the counts that they make.
 use Prim.Native.Nat.{ℕ, zero, suc, _<_}
 use mathlib.Core.Path.{_≡_, refl, ap}
 use mathlib.Core.Bool.{Bool, true}

@@ -1,4 +1,4 @@
--- Bytes past the longest file cannot change what reading comes to.
+-- Bytes past the longest file and one byte more cannot change what reading gives.
 use Prim.Native.Nat.{ℕ, _+_, _<_}
 use mathlib.Core.Path.{_≡_, refl}
 use mathlib.Core.List.{List}

@@ -57,7 +57,7 @@ period-takes =
     gives-then _ _ header records header-takes (λ front h is.
     gives-on _ _ (records h) (λ all what are. rw (is, are .numbers, ← are .counted) refl) (records-take h))
 
--- so where reading comes to a period, the numbers that it took are the period's
+-- so if reading gives a period, the numbers that it took are the period's
 pub numbers-consumed :
     {what : Period} {place : ℕ} {rest : Run} (file : List ℕ) → reads period 0 (run file) ≡ read what place rest → consumed file ≡ periodNumbers what
 unfolding consumed

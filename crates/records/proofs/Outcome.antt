@@ -8,10 +8,10 @@ use Rattle.fields.specs.declared.reason.Reason.{Reason}
 use Rattle.fields.specs.Readers.{Reader}
 use Rattle.records.specs.declared.counts.Counts.{Counts}
 use Rattle.records.specs.declared.limits.Limits.{Limits}
-use Rattle.records.specs.Limits.{limits}
+use Rattle.records.specs.Limits.{LimitsPromise}
 use Rattle.records.specs.FieldTests.{Allows, HeaderAllows, PlantAllows, SegmentAllows, LineAllows, HeaderReason}
 
--- a test whatever numbers stand before the field: zeros, for one
+-- a test that is right whatever numbers come before the field: zeros, for one
 allows-once : {A : Type 0} (reader : Reader A) (field value : ℕ) (r s : Bool) → Allows reader field value r → Allows reader field value s → r ≡ s
 allows-once reader field value r s p q =
     let before : List ℕ = replicate field 0 in
@@ -39,5 +39,5 @@ one-line-allows counts earlier field value r s p q = p ∙ sym q
 pub one-header-reason : (field : ℕ) (r s : Reason) → HeaderReason field r → HeaderReason field s → r ≡ s
 one-header-reason field r s p q = p ∙ sym q
 
-pub one-limits : (r s : Limits) → r ≡ limits → s ≡ limits → r ≡ s
+pub one-limits : (r s : Limits) → LimitsPromise r → LimitsPromise s → r ≡ s
 one-limits r s p q = p ∙ sym q

@@ -1,4 +1,4 @@
--- A period file by its parts: what it is read as, by what its header, its plants, its segments, its lines and its end come to.
+-- A period file by its parts: what it is read as, by what its header, its plants, its segments, its lines and its end give.
 use Prim.Native.Nat.{ℕ, _^_, _<_}
 use mathlib.Core.Path.{_≡_, sym, ap, _∙_}
 use mathlib.Core.List.{List}
@@ -38,7 +38,7 @@ module _ (counts : Counts) where
   fromPlants plants = segmentsOf counts >>= fromSegments plants
 
 module _ (file : List ℕ) (long : length file < 2 ^ 64) where
-  -- what a reading of all its parts comes to is what the file is read as
+  -- what a reading of all its parts gives is what the file is read as
   abbrev from : Reader Period → Spot → Type 0
   from reader at = readsFrom period file firstSpot ≡ readsFrom reader file at
 

@@ -1,4 +1,4 @@
--- The reading of a period, along its fields: which field stands at which place, by what the header announces; there is room for it in the
+-- The reading of a period, along its fields: which field is at which place, by what the header announces; there is room for it in the
 -- longest file; and what is held in the end is as announced, each record within its limits.
 use Prim.Native.Nat.{ℕ, suc, _+_, _*_, _≤_, _<_}
 use mathlib.Core.Path.{_≡_, refl}
@@ -46,7 +46,7 @@ pub data RecordField (h : Counts) : (place : ℕ) → Reason → Type 0 where
   segment-field : {place : ℕ} → (segmentsFrom h ≤ place) × (place < linesFrom h) → RecordField h place WrongSegment
   line-field : {place : ℕ} → (linesFrom h ≤ place) × (place < linesEnd h) → RecordField h place WrongLine
 
--- a field of the whole period, wherever it stands: its number of refusal is one of 4 to 8
+-- a field of the whole period, wherever it is: its number of refusal is one of 4 to 8
 abbrev pub PeriodField : (place : ℕ) → Reason → Type 0
 PeriodField place reason = (numberOf WrongEdition ≤ numberOf reason) × (numberOf reason ≤ numberOf WrongLine)
 
@@ -57,11 +57,11 @@ plantsEnd = headerBytes + plantBytes * mostPlants
 abbrev segmentsEnd : ℕ
 segmentsEnd = plantsEnd + segmentBytes * mostSegments
 
--- a field stands at its place, and its first byte where the longest file has room for the most groups
+-- a field is at its place, and from its first byte on the longest file has room for the most groups
 abbrev pub Placed : ((place : ℕ) → Reason → Type 0) → (place at : ℕ) → Reason → Type 0
 Placed Field place at reason = Field place reason × (at + mostGroups ≤ mostBytes)
 
--- what is held behind the header: so many records of each kind as it announces, each within its limits
+-- what is held behind the header: as many records of each kind as it announces, each within its limits
 pub record Holds (h : Counts) (what : Period) : Type 0 where
   pub counts : CountsWithin h
   pub counted : countsOf what ≡ h
@@ -91,7 +91,7 @@ module _ (file : List ℕ) where
       done (counts-fit plants segments lines p s l, omega arith)))))
 
   module _ (h : Counts) (counts : CountsWithin h) where
-    -- so many plants end at this place, and at this byte at the latest; and so many segments, and lines
+    -- a count of plants ends at this place, and at this byte at the latest; so do a count of segments and one of lines
     abbrev PlantsTo : (count place at : ℕ) → Type 0
     PlantsTo count place at = (place ≡ headerFields + plantFields * count) × (at ≤ headerBytes + plantBytes * count)
 

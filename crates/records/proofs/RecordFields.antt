@@ -1,4 +1,4 @@
--- The fields of each kind of record by their index: how many numbers it wants and with which reason, what each is tested for, what its
+-- The fields of each kind of record by their index: how many numbers it needs and with which reason, what each is tested for, what its
 -- numbers make, and that they fit it.
 use Prim.Native.Nat.{ℕ, zero, suc, _≤_}
 use mathlib.Core.Path.{_≡_, refl, ap}
@@ -76,7 +76,7 @@ module _ (counts : Counts) where
     unfolding Wants segment
     segment-wants = (refl, λ _. (refl, λ _. (refl, λ _. tt)))
 
-    -- what each field is tested for, where its kind is the first number
+    -- what each field is tested for; the kind is the first number
     abbrev pub segmentTest : (kind field : ℕ) → ℕ → Bool
     segmentTest kind zero = kindAllowed
     segmentTest kind (suc zero) = anyAmount
@@ -121,7 +121,7 @@ module _ (counts : Counts) where
   unfolding Wants line
   line-wants = (refl, λ _. (refl, λ _. (refl, λ _. (refl, λ _. (refl, λ _. tt)))))
 
-  -- what each field is tested for, where its owner's kind is the first number
+  -- what each field is tested for; the owner's kind is the first number
   abbrev pub lineTest : (ownerKind field : ℕ) → ℕ → Bool
   lineTest ownerKind zero = ownerKindAllowed
   lineTest ownerKind (suc zero) = ownerAllowed counts ownerKind

@@ -6,13 +6,13 @@ use native.Mathlib.Nat.{add-zero, add-suc, suc-add, le-of-suc-le-suc, not-suc-le
 use lib.Dec.{T}
 use lib.ListN.{length, getD}
 
--- where two tests pass together, each does
+-- if two tests pass together, each does
 pub both : (a b : Bool) → T (a && b) → T a × T b
 both true b t = (tt, t)
 both false b t = absurd t
 
 module _ {A : Type 0} where
-  -- the test passes at every row with its code, where the first row has this code and the codes go up by one
+  -- the test passes at every row with its code: the first row has this code, and the codes go up by one
   abbrev pub throughout : (ℕ → A → Bool) → ℕ → List A → Bool
   throughout rule code [] = true
   throughout rule code (row ∷ rows) = rule code row && throughout rule (suc code) rows

@@ -1,14 +1,15 @@
--- The table of classes, row by row as 01 has it: nothing in a file changes it.
+-- The table of classes, and which owner may have which class.
 use Prim.Native.Nat.{ℕ}
 use mathlib.Core.Bool.{Bool, true, false, _&&_, _||_}
 use mathlib.Core.List.{List, [], _∷_}
 use lib.Dec.{eqb}
 use Rattle.records.specs.declared.class.Class.{Class}
 
--- what a line's record says of its owner's kind
+-- The owner kind of a line that a plant owns (rule 2.8).
 abbrev pub plantOwner : ℕ
 plantOwner = 0
 
+-- The owner kind of a line that a segment owns (rule 2.8).
 abbrev pub segmentOwner : ℕ
 segmentOwner = 1
 
@@ -16,7 +17,7 @@ segmentOwner = 1
 abbrev row : (code first last : ℕ) (plant segment : Bool) → Class
 row code first last plant segment = record { code = code; equation = first; «last_equation» = last; plant = plant; segment = segment }
 
--- 01's table, row by row
+-- The table of classes, row by row: nothing in a file changes it (rule 3.1).
 unfoldable pub classes : List Class
 classes =
     row 1 19 19 true false  -- extra biomass
@@ -29,15 +30,15 @@ classes =
     ∷ row 8 18 18 true false  -- waste disposal
     ∷ []
 
--- Whether a row's class is allowed to an owner of this kind.
+-- Whether a row allows its class to an owner of this kind.
 abbrev pub allows : Class → ℕ → Bool
 allows class ownerKind = eqb ownerKind plantOwner && class .plant || eqb ownerKind segmentOwner && class .segment
 
--- Whether some row has this code and is allowed to this owner.
+-- Whether some row has this code and allows it to such an owner.
 abbrev pub allowedBy : List Class → ℕ → ℕ → Bool
 allowedBy [] ownerKind code = false
 allowedBy (class ∷ rest) ownerKind code = eqb (class .code) code && allows class ownerKind || allowedBy rest ownerKind code
 
--- whether the table has the class for such an owner
+-- Whether the table has the class, and has it for such an owner (rule 3.2).
 unfoldable pub classAllowed : ℕ → ℕ → Bool
 classAllowed = allowedBy classes

@@ -1,4 +1,4 @@
--- The header: the edition, then P, S and L, how many plants, segments and lines follow (01, "The period file").
+-- The header: the edition, then P, S and L, how many plants, segments and lines follow.
 use Prim.Native.Nat.{ℕ, _+_}
 use mathlib.Core.List.{List}
 use lib.Dec.{eqb}
@@ -12,6 +12,7 @@ use Rattle.records.specs.Plants.{plantsAllowed}
 use Rattle.records.specs.Segments.{segmentsAllowed}
 use Rattle.records.specs.Lines.{linesAllowed}
 
+-- The edition that is read here (rule 2.3).
 abbrev pub edition : ℕ
 edition = 1
 
@@ -19,7 +20,7 @@ edition = 1
 abbrev pub announced : (plants segments lines : ℕ) → Counts
 announced plants segments lines = record { plants = plants; segments = segments; lines = lines }
 
--- The header, number by number.
+-- The header, number by number (rule 2.3).
 unfoldable pub header : Reader Counts
 header = do
   _ ← field WrongEdition (eqb edition)
@@ -28,18 +29,19 @@ header = do
   lines ← field WrongCount linesAllowed
   return (announced plants segments lines)
 
--- Its numbers, and the most bytes that they take, field by field.
+-- How many numbers the header has.
 abbrev pub headerFields : ℕ
 headerFields = 4
 
+-- The most bytes that they take, field by field.
 abbrev pub headerBytes : ℕ
 headerBytes = 1 + 1 + 1 + 2
 
--- What it tells of the records behind it: the counts that were read; a header that is refused tells nothing.
+-- What a header tells of the records behind it: the counts that were read; if it is refused, nothing.
 abbrev pub telling : Read Counts → Header
 telling (read counts place rest) = Tells counts
 telling (refused number place) = TellsNothing
 
--- The header of a file, whatever stands behind it.
+-- What the header of a file tells, whatever is behind it (rules 2.3 and 11.5).
 unfoldable pub headerOf : List ℕ → Header
 headerOf file = telling (reads header 0 (run file))

@@ -1,9 +1,9 @@
--- What a file holds, by what its reading comes to.
+-- What a file holds, by what reading it gives.
 use mathlib.Core.List.{[]}
 use Rattle.fields.specs.Readers.{Read, read, refused}
 use Rattle.records.specs.Periods.{Period}
 
--- The records; a refused file has none.
+-- The records that were read; a refused file has none.
 abbrev pub recordsOf : Read Period → Period
 recordsOf (read period place rest) = period
 recordsOf (refused number place) = record { plants = []; segments = []; lines = [] }

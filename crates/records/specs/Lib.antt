@@ -1,11 +1,11 @@
--- The definitions of 01 for the period file, lowest first.
+-- The definitions of the period file, lowest first.
 
 -- the records: their limits, and the tests of their fields
 pub mod Plants
 pub mod Segments
 pub mod Classes
 pub mod Lines
--- the file: its header and records, read front to back; the numbers that it has
+-- the file: its header and records, read from the front; the numbers that it has
 pub mod Headers
 pub mod Periods
 pub mod Numbers

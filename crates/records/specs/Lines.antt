@@ -1,4 +1,4 @@
--- Emission lines: who owns each, its class, and a quantity with the grams of a unit (01, "The period file").
+-- Lines: who owns each, its class, a quantity, and the grams for one unit of it.
 use Prim.Native.Nat.{ℕ, _+_}
 use mathlib.Core.Bool.{Bool, _&&_, _||_}
 use lib.Dec.{eqb}
@@ -7,26 +7,32 @@ use Rattle.records.specs.declared.counts.Counts.{Counts}
 use Rattle.records.specs.declared.line.Line.{Line}
 use Rattle.records.specs.Classes.{plantOwner, segmentOwner}
 
--- L: none, or at most so many
+-- The most lines of a period (rule 2.3).
 abbrev pub mostLines : ℕ
 mostLines = 512
 
+-- L: from no line to the most (rule 2.3).
 abbrev pub linesAllowed : ℕ → Bool
 linesAllowed = upTo mostLines
 
--- the largest factor, in grams of CO2e for a unit
+-- The largest factor, in grams of CO2e for one unit (rule 2.8).
 abbrev pub largestFactor : ℕ
 largestFactor = 1_000_000_000
 
--- there are owners of two kinds
+-- The most grams of all lines of one owner (rule 8.5).
+abbrev pub mostGrams : ℕ
+mostGrams = 4_000_000_000_000
+
+-- There are owners of two kinds: 0 a plant, 1 a segment (rule 2.8).
 abbrev pub ownerKindAllowed : ℕ → Bool
 ownerKindAllowed = upTo segmentOwner
 
--- the owner is one of the P plants or of the S segments, by its kind
+-- The owner is one of the P plants or of the S segments, by its kind (rule 2.8).
 abbrev pub ownerAllowed : Counts → (ownerKind owner : ℕ) → Bool
 ownerAllowed counts ownerKind owner =
     eqb ownerKind plantOwner && within 1 (counts .plants) owner || eqb ownerKind segmentOwner && within 1 (counts .segments) owner
 
+-- A factor is at most the largest; it may be 0 (rule 2.8).
 abbrev pub factorAllowed : ℕ → Bool
 factorAllowed = upTo largestFactor
 
@@ -35,13 +41,14 @@ abbrev pub lineOf : (ownerKind owner class quantity factor : ℕ) → Line
 lineOf ownerKind owner class quantity factor =
     record { «owner_kind» = ownerKind; owner = owner; class = class; quantity = quantity; factor = factor }
 
--- What an array holds where it holds no line.
+-- What an array holds in an entry without a line.
 abbrev pub noLine : Line
 noLine = lineOf 0 0 0 0 0
 
--- The numbers of a record, and the most bytes that they take, field by field.
+-- How many numbers a line's record has.
 abbrev pub lineFields : ℕ
 lineFields = 5
 
+-- The most bytes that they take, field by field.
 abbrev pub lineBytes : ℕ
 lineBytes = 1 + 1 + 1 + 5 + 5

@@ -11,23 +11,23 @@ use Rattle.records.specs.declared.line.Line.{Line}
 use Rattle.records.specs.Headers.{edition}
 use Rattle.records.specs.Periods.{Period, period}
 
--- of the header: the edition, and how many records of each kind follow
+-- The header's numbers: the edition, and how many records of each kind follow (rule 2.3).
 abbrev pub headerNumbersOf : Period → List ℕ
 headerNumbersOf period = edition ∷ length (period .plants) ∷ length (period .segments) ∷ length (period .lines) ∷ []
 
--- of a plant
+-- A plant's numbers (rule 2.4).
 abbrev pub plantNumbersOf : Plant → List ℕ
 plantNumbersOf plant = plant .exported ∷ plant .first ∷ plant .fraction ∷ []
 
--- of a segment
+-- A segment's numbers (rule 2.5).
 abbrev pub segmentNumbersOf : Segment → List ℕ
 segmentNumbersOf segment = segment .kind ∷ segment .outflow ∷ segment .next ∷ []
 
--- of a line
+-- A line's numbers (rule 2.8).
 abbrev pub lineNumbersOf : Line → List ℕ
 lineNumbersOf line = line .«owner_kind» ∷ line .owner ∷ line .class ∷ line .quantity ∷ line .factor ∷ []
 
--- Those of the whole period.
+-- The numbers of the whole period (rule 2.2).
 unfoldable pub periodNumbers : Period → List ℕ
 periodNumbers period =
     headerNumbersOf period
@@ -35,6 +35,6 @@ periodNumbers period =
     ++ (inTurn segmentNumbersOf (period .segments)
     ++ inTurn lineNumbersOf (period .lines)))
 
--- The numbers of a file that its reading consumes.
+-- The numbers that reading takes from a file.
 unfoldable pub consumed : List ℕ → List ℕ
 consumed file = consumes period (run file)

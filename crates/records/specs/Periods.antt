@@ -26,7 +26,7 @@ pub record Period : Type 0 where
 abbrev pub periodOf : List Plant → List Segment → List Line → Period
 periodOf plants segments lines = record { plants = plants; segments = segments; lines = lines }
 
--- A plant's record.
+-- A plant's record (rule 2.4).
 unfoldable pub plant : Counts → Reader Plant
 plant counts = do
   exported ← field WrongPlant anyAmount
@@ -34,7 +34,7 @@ plant counts = do
   fraction ← field WrongPlant fractionAllowed
   return (plantOf exported first fraction)
 
--- A segment's record, which is tested by the segment's own number.
+-- A segment's record, which is tested by the segment's own number (rule 2.5).
 unfoldable pub segment : Counts → ℕ → Reader Segment
 segment counts own = do
   kind ← field WrongSegment kindAllowed
@@ -42,7 +42,7 @@ segment counts own = do
   next ← field WrongSegment (nextAllowed counts own kind)
   return (segmentOf kind outflow next)
 
--- A line's record.
+-- A line's record (rule 2.8).
 unfoldable pub line : Counts → Reader Line
 line counts = do
   ownerKind ← field WrongLine ownerKindAllowed
@@ -52,17 +52,19 @@ line counts = do
   factor ← field WrongLine factorAllowed
   return (lineOf ownerKind owner class quantity factor)
 
--- As many of each kind as the header announces, numbered from 1.
+-- The plants: as many as the header says, numbered from 1 (rule 2.2).
 abbrev pub plantsOf : Counts → Reader (List Plant)
 plantsOf counts = each (λ (own : ℕ). plant counts) 1 (counts .plants)
 
+-- The segments, in the same way (rule 2.2).
 abbrev pub segmentsOf : Counts → Reader (List Segment)
 segmentsOf counts = each (segment counts) 1 (counts .segments)
 
+-- The lines, in the same way (rule 2.2).
 abbrev pub linesOf : Counts → Reader (List Line)
 linesOf counts = each (λ (own : ℕ). line counts) 1 (counts .lines)
 
--- The records behind the header.
+-- The records behind the header: plants, segments, lines (rule 2.2).
 unfoldable pub records : Counts → Reader Period
 records counts = do
   plants ← plantsOf counts
@@ -70,24 +72,24 @@ records counts = do
   lines ← linesOf counts
   return (periodOf plants segments lines)
 
--- The numbers of the file, from the first to the last.
+-- The whole period: the header, then the records that it says (rule 2.2).
 unfoldable pub period : Reader Period
 period = do
   counts ← header
   records counts
 
--- The whole file.
+-- The whole file, with the test of its end (rules 2.1 and 8.4).
 unfoldable pub periodFile : List ℕ → Read Period
 periodFile = fileRead period
 
--- What reading says of it: accepted, or refused for one of 1 to 9.
+-- What reading says of a file: accepted, or refused for one of 1 to 9 (rules 8.3 and 8.4).
 abbrev pub periodVerdict : List ℕ → Verdict
 periodVerdict file = readVerdict (periodFile file)
 
--- The most numbers that a file has, and the most bytes: every count and every field at its largest. A number below 128 takes one byte, one
--- below 128² takes two, and so on up to five.
+-- The most numbers of a file: every count is at its largest.
 abbrev pub mostNumbers : ℕ
 mostNumbers = headerFields + plantFields * mostPlants + segmentFields * mostSegments + lineFields * mostLines
 
+-- The most bytes of a file: every count and every field is at its largest (rule 9.2).
 abbrev pub mostBytes : ℕ
 mostBytes = headerBytes + plantBytes * mostPlants + segmentBytes * mostSegments + lineBytes * mostLines

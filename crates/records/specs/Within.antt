@@ -1,4 +1,4 @@
--- The limits that 01 sets for what a period file holds.
+-- The limits of what a period file holds.
 use Prim.Native.Nat.{ℕ, _≤_, _<_}
 use mathlib.Core.Path.{_≡_}
 use mathlib.Core.Bool.{true}
@@ -17,7 +17,7 @@ use Rattle.records.specs.Lines.{mostLines, largestFactor}
 use Rattle.records.specs.Headers.{announced}
 use Rattle.records.specs.Periods.{Period}
 
--- What a header announces: how many records of each kind there may be.
+-- The counts of a header: how many records of each kind there may be (rule 2.3).
 pub record CountsWithin (counts : Counts) : Type 0 where
   pub some-plants : 1 ≤ counts .plants
   pub most-plants : counts .plants ≤ mostPlants
@@ -33,24 +33,24 @@ mostCounts = announced mostPlants mostSegments mostLines
 abbrev pub countsOf : Period → Counts
 countsOf period = announced (length (period .plants)) (length (period .segments)) (length (period .lines))
 
--- A plant: its route starts at a segment that is there, and no more than the whole is of that origin.
+-- A plant: its route starts at a segment that is there, and no more than the whole is of that origin (rules 2.4 and 2.9).
 pub record PlantWithin (counts : Counts) (own : ℕ) (plant : Plant) : Type 0 where
   pub exported : plant .exported ≤ largest
   pub some-first : 1 ≤ plant .first
   pub first : plant .first ≤ counts .segments
   pub fraction : plant .fraction ≤ millionths
 
--- A segment, whatever its kind: it leads to a later segment that is there, or to none.
+-- A segment, whatever its kind: it leads to a later segment that is there, or to none (rules 2.7 and 2.9).
 pub record SegmentWithin (counts : Counts) (own : ℕ) (segment : Segment) : Type 0 where
   pub outflow : segment .outflow ≤ largest
   pub next : (segment .next ≡ 0) ⊎ ((own < segment .next) × (segment .next ≤ counts .segments))
 
--- A segment by its kind: a store ends a route, all others lead on.
+-- A segment by its kind: a store ends a route, all others lead on (rules 2.6 and 2.7).
 pub record KindWithin (counts : Counts) (own : ℕ) (segment : Segment) : Type 0 where
   pub kind : kindAllowed (segment .kind) ≡ true
   pub next : nextAllowed counts own (segment .kind) (segment .next) ≡ true
 
--- A line: a plant or segment that is there owns it, and its factor is no larger than the limit.
+-- A line: a plant or segment that is there owns it, and its factor is no larger than the limit (rules 2.8 and 2.9).
 pub record LineWithin (counts : Counts) (own : ℕ) (line : Line) : Type 0 where
   pub owner-kind : line .«owner_kind» ≤ segmentOwner
   pub some-owner : 1 ≤ line .owner
@@ -59,11 +59,11 @@ pub record LineWithin (counts : Counts) (own : ℕ) (line : Line) : Type 0 where
   pub quantity : line .quantity ≤ largest
   pub factor : line .factor ≤ largestFactor
 
--- Its class: the table has it for such an owner.
+-- A line's class: the table has it for such an owner (rule 3.2).
 abbrev pub ClassWithin : ℕ → Line → Type 0
 ClassWithin own line = classAllowed (line .«owner_kind») (line .class) ≡ true
 
--- A period: its counts, and each of its records
+-- A period: its counts, and each of its records (rule 2.10).
 pub record Within (period : Period) : Type 0 where
   pub counts : CountsWithin (countsOf period)
   pub plants : Each (PlantWithin (countsOf period)) 1 (period .plants)

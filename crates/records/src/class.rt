@@ -1,10 +1,10 @@
-// Classes of emission lines: a table of fixed data, looked up for every line.
+// Classes of lines: a fixed table, in which the class of every line is looked up (rules 3.1 and 3.2).
 ghost use mathlib.Core.Path.{_≡_};
 ghost use Rattle.records.specs.Classes.{classAllowed};
 use crate::plant::Plant;
 use crate::segment::Segment;
 
-// A row of the table: a class with its equations in the annex and the owners that it allows.
+// A row of the table: a class, its equations in the annex, and the owners that may have it (rule 3.1).
 pub struct Class {
     pub code: u8,
     // The first of its equations, and the last; most classes have one.
@@ -15,14 +15,14 @@ pub struct Class {
 }
 
 impl Class {
-    // The rows of the table.
+    // How many rows the table has.
     pub const ROWS: usize = 8;
     // The codes of its first row and its last.
     pub const FIRST: u64 = 1;
 
     pub const LAST: u64 = Class::ROWS as u64;
 
-    // Whether the table allows a class to an owner.
+    // Whether the table allows a class to an owner of this kind (rule 3.2).
     pub(crate) fn allowed(code: u64, owner_kind: u64) -> bool
         ensures { λ r. ⌜ r ≡ classAllowed «owner_kind» code ⌝ }
     {
@@ -40,7 +40,7 @@ impl Class {
     }
 }
 
-// 01's table, row by row.
+// The table of classes, row by row (rule 3.1).
 const CLASSES: [Class; Class::ROWS] = [
     // extra biomass
     Class {

@@ -1,4 +1,4 @@
-// The header: edition, and how many plants, segments and lines follow.
+// The header: the edition, and how many plants, segments and lines follow (rule 2.3).
 ghost use Rattle.records.specs.FieldTests.{HeaderAllows, HeaderReason};
 use crate::counts::Counts;
 use crate::line::Line;
@@ -15,14 +15,14 @@ pub enum Header {
 }
 
 impl Header {
-    // The edition that is read here.
+    // The edition that is read here (rule 2.3).
     pub const EDITION: u64 = 1;
     // The numbers of the header, and the most bytes that they take, field by field.
     pub const FIELDS: usize = 4;
 
     pub const BYTES: usize = 1 + 1 + 1 + 2;
 
-    // Whether the field at an index allows a value, whatever stands before it.
+    // Whether the field at an index allows a value, whatever comes before it (rule 2.3).
     pub fn allows(field: usize, value: u64) -> bool
         ensures { λ r. ⌜ HeaderAllows field value r ⌝ }
     {
@@ -35,7 +35,7 @@ impl Header {
         }
     }
 
-    // Why a value is refused that the field does not allow.
+    // The reason to refuse a value that the field at an index does not allow (rule 8.1).
     pub fn reason(field: usize) -> Reason
         ensures { λ r. ⌜ HeaderReason field r ⌝ }
     {

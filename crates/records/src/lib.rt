@@ -1,7 +1,7 @@
-// The period file: its records, their limits, and the tests of their fields (01, "The period file").
+// The period file: its records, their limits, and the tests of their fields (rules 2.2 to 2.9, 3.1, 3.2 and 9.1).
 //
-// A field is tested by its index in the record and by numbers, not bytes. What a file has to hold, and in
-// which order it is tested, is said by the definitions in specs/.
+// A field is tested by its index in the record and by numbers, not bytes. The definitions in specs/ say what a file has to hold,
+// and in which order it is tested.
 pub mod class;
 pub mod counts;
 pub mod header;

@@ -1,6 +1,5 @@
-// The limits of a period, for callers that make files or room for what they hold.
-ghost use mathlib.Core.Path.{_≡_};
-ghost use Rattle.records.specs.Limits.{limits};
+// The limits of a period, for callers that make files or room for what is in them (rule 9.1).
+ghost use Rattle.records.specs.Limits.{LimitsPromise};
 use crate::class::Class;
 use crate::header::Header;
 use crate::line::Line;
@@ -17,6 +16,8 @@ pub struct Limits {
     pub kind: u64,
     pub class: u64,
     pub factor: u64,
+    // The most grams of one owner.
+    pub grams: u64,
     // The most numbers of a file, and its most bytes.
     pub numbers: u64,
     pub bytes: usize,
@@ -33,9 +34,9 @@ impl Limits {
         + Segment::BYTES * Segment::MOST
         + Line::BYTES * Line::MOST;
 
-    // Every limit as the records state it. The promise ties them to those of the definitions.
+    // Every limit as the records state it. The promise ties them to those of the definitions (rule 9.1).
     pub fn new() -> Limits
-        ensures { λ r. ⌜ r ≡ limits ⌝ }
+        ensures { λ r. ⌜ LimitsPromise r ⌝ }
     {
         Limits {
             plants: Plant::MOST,
@@ -45,6 +46,7 @@ impl Limits {
             kind: Segment::STORE,
             class: Class::LAST,
             factor: Line::LARGEST_FACTOR,
+            grams: Line::MOST_GRAMS,
             numbers: Limits::NUMBERS as u64,
             bytes: Limits::BYTES,
         }

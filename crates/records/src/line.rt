@@ -1,4 +1,4 @@
-// Emission lines: an owner, a class, a quantity and the grams of CO2e that a unit of it stands for.
+// Lines: an owner, a class, a quantity, and the grams for one unit of it (rule 2.8).
 ghost use mathlib.Core.Path.{_≡_};
 ghost use Rattle.records.specs.Lines.{factorAllowed, linesAllowed, ownerAllowed, ownerKindAllowed};
 ghost use Rattle.records.specs.FieldTests.{LineAllows};
@@ -13,28 +13,30 @@ pub struct Line {
     pub owner: u32,
     pub class: u8,
     pub quantity: u32,
-    // Grams CO2e per unit of the quantity.
+    // In grams of CO2e for one unit of the quantity.
     pub factor: u32,
 }
 
 impl Line {
-    // The most lines that a period has; it may have none.
+    // The most lines that a period has; it may have none (rule 2.3).
     pub const MOST: usize = 512;
     // The numbers of its record in the file, and the most bytes that they take, field by field.
     pub const FIELDS: usize = 5;
 
     pub const BYTES: usize = 1 + 1 + 1 + 5 + 5;
-    // The largest factor, in grams CO2e per unit.
+    // The largest factor, in grams of CO2e for one unit (rule 2.8).
     pub const LARGEST_FACTOR: u64 = 1_000_000_000;
+    // The most grams of all lines of one owner (rule 8.5).
+    pub const MOST_GRAMS: u64 = 4_000_000_000_000;
 
-    // Whether a period may have so many lines.
+    // Whether a period may have that many lines (rule 2.3).
     pub(crate) fn count_allowed(count: u64) -> bool
         ensures { λ r. ⌜ r ≡ linesAllowed count ⌝ }
     {
         count <= Line::MOST as u64
     }
 
-    // Whether the field at an index of a line's record allows a value, by the numbers before it.
+    // Whether the field at an index of a line's record allows a value, by the numbers before it (rules 2.8, 3.1 and 3.2).
     pub fn allows(field: usize, value: u64, earlier: [u64; Line::FIELDS], counts: Counts) -> bool
         ensures { λ r. ⌜ LineAllows counts earlier field value r ⌝ }
     {
@@ -47,14 +49,14 @@ impl Line {
         }
     }
 
-    // Whether there is such a kind of owner.
+    // Whether there is such a kind of owner (rule 2.8).
     fn owner_kind_allowed(owner_kind: u64) -> bool
         ensures { λ r. ⌜ r ≡ ownerKindAllowed «owner_kind» ⌝ }
     {
         owner_kind <= Segment::OWNER_KIND
     }
 
-    // Whether there is such a plant or segment.
+    // Whether there is such a plant or segment (rule 2.8).
     fn owner_allowed(owner: u64, owner_kind: u64, counts: Counts) -> bool
         ensures { λ r. ⌜ r ≡ ownerAllowed counts «owner_kind» owner ⌝ }
     {
@@ -65,7 +67,7 @@ impl Line {
         }
     }
 
-    // Whether a line may have this factor.
+    // Whether a line may have this factor (rule 2.8).
     fn factor_allowed(factor: u64) -> bool
         ensures { λ r. ⌜ r ≡ factorAllowed factor ⌝ }
     {

@@ -1,4 +1,4 @@
-// Plants: what each exported, where its route starts, and how much of it is of the origin that counts.
+// Plants: what each exported, where its route starts, and which part of its CO2 is of the origin that counts (rule 2.4).
 ghost use mathlib.Core.Path.{_≡_};
 ghost use Rattle.records.specs.Plants.{firstAllowed, fractionAllowed, plantsAllowed};
 ghost use Rattle.records.specs.FieldTests.{PlantAllows};
@@ -14,7 +14,7 @@ pub struct Plant {
 }
 
 impl Plant {
-    // The most plants that a period has, and the fewest.
+    // The most plants that a period has, and the fewest (rule 2.3).
     pub const MOST: usize = 16;
 
     pub const FEWEST: u64 = 1;
@@ -22,19 +22,19 @@ impl Plant {
     pub const FIELDS: usize = 3;
 
     pub const BYTES: usize = 5 + 1 + 3;
-    // What tells in a line's record that a plant owns it.
+    // The owner kind of a line that a plant owns (rule 2.8).
     pub const OWNER_KIND: u64 = 0;
-    // The largest origin fraction: the whole.
+    // The largest origin fraction: the whole (rule 2.4).
     pub const LARGEST_FRACTION: u64 = 1_000_000;
 
-    // Whether a period may have so many plants.
+    // Whether a period may have that many plants (rule 2.3).
     pub(crate) fn count_allowed(count: u64) -> bool
         ensures { λ r. ⌜ r ≡ plantsAllowed count ⌝ }
     {
         Plant::FEWEST <= count && count <= Plant::MOST as u64
     }
 
-    // Whether the field at an index of a plant's record allows a value, whatever stands before it.
+    // Whether the field at an index of a plant's record allows a value, whatever comes before it (rule 2.4).
     pub fn allows(field: usize, value: u64, counts: Counts) -> bool
         ensures { λ r. ⌜ PlantAllows counts field value r ⌝ }
     {
@@ -45,14 +45,14 @@ impl Plant {
         }
     }
 
-    // Whether a route may start at this segment.
+    // Whether a route may start at this segment (rule 2.4).
     fn first_allowed(first: u64, counts: Counts) -> bool
         ensures { λ r. ⌜ r ≡ firstAllowed counts first ⌝ }
     {
         1 <= first && first <= counts.segments
     }
 
-    // Whether a plant may have this origin fraction.
+    // Whether a plant may have this origin fraction (rule 2.4).
     fn fraction_allowed(fraction: u64) -> bool
         ensures { λ r. ⌜ r ≡ fractionAllowed fraction ⌝ }
     {

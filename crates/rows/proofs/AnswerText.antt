@@ -21,14 +21,14 @@ refusal-told : (ruling : Ruling) (why : Refusal) → refusing why ≡ rulingVerd
 refusal-told (refusal number place) why told = cc
 refusal-told (accepted plants segments) why told = let z : _≡_ {A = ℕ} 0 1 = cc in absurd (omega arith)
 
--- acceptance in the rows of both tables
+-- an acceptance is told in the rows of both tables
 rows-told :
     (ruling : Ruling) → accepts ≡ rulingVerdict ruling →
     rulingText ruling ≡ tableText (ascii "P") plantNumbers (plantEntries ruling) ++ tableText (ascii "S") segmentNumbers (segmentEntries ruling)
 rows-told (refusal number place) told = let z : _≡_ {A = ℕ} 0 1 = cc in absurd (omega arith)
 rows-told (accepted plants segments) told = refl
 
--- numbers that are written over the start of a table stand there
+-- numbers that are written over the start of a table are there
 written-there : (numbers before after : List ℕ) → after ≡ overwritten numbers before → take (length numbers) after ≡ numbers
 written-there numbers before after e = ap (λ (table : List ℕ). take (length numbers) table) e ∙ take-at numbers (drop (length numbers) before) (length numbers) refl
 

@@ -1,4 +1,4 @@
--- 01, "One whole period", from the bytes of the file to the printed text, by computation; and what is printed for files that are refused.
+-- The worked period (rule 13.11), from the bytes of the file to the printed text, by computation; and what is printed for files that are refused.
 use mathlib.Core.Path.{_≡_, refl}
 use mathlib.Core.List.{[], _∷_, _++_, zipWith, flatMap}
 use Rattle.number.specs.Groups.{gather, value, padded}
@@ -23,7 +23,7 @@ use Rattle.output.specs.Lines.{textLine, rowsText}
 use Rattle.rows.specs.Printed.{printedRows}
 
 pub examples :
-    -- the whole period
+    -- the worked period
     (printedRows
     (0x01 ∷ 0x02 ∷ 0x02 ∷ 0x02
     ∷ 0x90 ∷ 0x4E ∷ 0x01 ∷ 0xC0 ∷ 0x84 ∷ 0x3D

@@ -6,5 +6,5 @@ mod AnswerText
 pub mod TextRoom
 -- for files of any length
 pub mod AnyFile
--- 01's whole period, from bytes to text
+-- the worked period, from bytes to text
 pub mod Examples

@@ -31,7 +31,7 @@ text-room file = by-ruling (rulingOnFile file) refl
         let segment-rows = table-long (code "S") segmentNumbers segments mostSegments (omega arith) (room .1) in
         rw (length-append (tableText (ascii "P") plantNumbers plants) (tableText (ascii "S") segmentNumbers segments)) (omega (arith, plant-rows, segment-rows))
 
--- so room that a file's text is put into, at its start, then holds it
+-- so the room holds a file's text that is put at its start
 pub held :
     (room : List ℕ) (bytes : ℕ) {end : ℕ} {room' : List ℕ} → Put (rulingText (rulingOnFile (take bytes room))) 0 room end room' →
     mostRowsText ≤ length room → Holds (printedRows (take bytes room)) end room'

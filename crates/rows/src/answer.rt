@@ -1,4 +1,4 @@
-// The answer to a period file, as text: its rows, or the line of a refused file (01, "One whole period").
+// The answer to a period file, as text: its rows, or the line of a refused file (rules 11.1 and 11.2).
 ghost use Prim.Native.Nat.{_≤_};
 ghost use lib.ListN.{length, take};
 ghost use Rattle.output.specs.Put.{Holds};
@@ -14,8 +14,7 @@ use period::quantify;
 use records::Plant;
 use records::Segment;
 
-// Prints the answer to the file in so many bytes at the start of the room. What was printed is
-// answered: all of the text, or nothing where it could not be written, and that is then said.
+// Prints the answer to the file in the first `bytes` bytes of the room; answers the text, or nothing if it could not be written.
 pub(crate) fn print_answer(room: &mut [u8], bytes: usize) -> &[u8]
     requires { ⌜ bytes ≤ length (now room) ⌝ }
     requires { ⌜ mostRowsText ≤ length (now room) ⌝ }
@@ -26,8 +25,7 @@ pub(crate) fn print_answer(room: &mut [u8], bytes: usize) -> &[u8]
     print(b"rows", &text[..end])
 }
 
-// Puts the text of that answer into the file's place; the byte behind it is answered. The tables have
-// room for the rows of every period, so that no file is refused with 14 or 15.
+// Puts that text over the file, and answers the byte behind it. The tables have room for every period, so there is no 14 or 15.
 fn put_answer(room: &mut [u8], bytes: usize) -> usize
     requires { ⌜ bytes ≤ length (now room) ⌝ }
     requires { ⌜ mostRowsText ≤ length (now room) ⌝ }

@@ -1,8 +1,4 @@
-// The program that users run: it takes a period file from standard input, and prints a row for each
-// plant and for each segment, or the one line of a refused file (01, "One whole period").
-//
-// A fault of reading is not the end of the file: it is said on standard error, with what to do next,
-// and so is output that cannot be written.
+// The program for a period file on standard input: it prints its rows, or the line of a refused file (rules 11.1 and 11.2).
 mod answer;
 mod room;
 
@@ -11,6 +7,7 @@ use crate::room::room;
 use input::Input;
 use input::read_input;
 
+// If standard input cannot be read, `read_input` says so, and nothing is printed.
 fn main() {
     let mut room = room();
     let input = read_input(b"rows", &mut room);

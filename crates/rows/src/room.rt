@@ -1,4 +1,4 @@
-// Room for a period file, as far as its bytes can change the answer, and then for the answer's text.
+// Room for a period file, as far as its bytes can change the answer (rule 9.2), and then for the answer's text.
 ghost use Prim.Native.Nat.{_<_};
 ghost use mathlib.Core.Path.{_≡_};
 ghost use lib.ListN.{length};
@@ -10,17 +10,16 @@ use period::SEGMENT_NUMBERS;
 use records::Plant;
 use records::Segment;
 
-// A row's letter and the end of its line.
+// The bytes of a row's letter and of the end of its line.
 const ROW_SIGNS: usize = 2;
 
-// The most bytes of a row: these signs, its record's own number and the numbers of the row.
+// The most bytes of a plant's row: these signs, its own number and the numbers of the row.
 const PLANT_ROW: usize = ROW_SIGNS + MOST_SPACED * (1 + PLANT_NUMBERS);
 
+// The same for a segment's row.
 const SEGMENT_ROW: usize = ROW_SIGNS + MOST_SPACED * (1 + SEGMENT_NUMBERS);
 
-// The rows of as many plants and segments as a period can have; a refusal's line is shorter. This is
-// more than the longest file has: so a file that goes on is seen to, and no byte that is not read can
-// change the answer (`any-file`, proofs/AnyFile.antt).
+// The rows of the most plants and segments. The longest file is shorter, so no byte that is not read changes the answer (rule 9.2).
 const ROOM: usize = Plant::MOST * PLANT_ROW + Segment::MOST * SEGMENT_ROW;
 
 // Zeros, with room for what is read and for what is printed.

@@ -68,7 +68,7 @@ module _
     pub stored-most : getD (books .stored) p 0 ≤ getD plants p noPlant .exported
     stored-most = rw stored-is (no-more bounded worked p here)
 
-  -- ---- and the rows, for lines by which the owners emit so many kg
+  -- ---- and the rows, for lines by which the owners emit these kg
   module _ (lines : List Line) (is : EmissionsOf counts lines emissions) where
     -- the period of these lines
     abbrev period : Period
@@ -138,7 +138,7 @@ module _
 
     -- ---- what is charged to a plant
     module _ (p : ℕ) (here : p < counts .plants) where
-      -- by so many segments
+      -- by the segments up to a count of them
       abbrev charged-by : ℕ → ℕ
       charged-by = chargesBy (getD (books .amounts) p []) (books .inflows) (emissions .segments)
 

@@ -1,4 +1,4 @@
--- The call, step by step: what the parts of the file, its lines and its segments come to is the settlement of the definitions.
+-- The call, step by step: what the parts of the file, its lines and its segments give is the settlement of the definitions.
 use Prim.Native.Nat.{ℕ, _^_, _≤_, _<_}
 use mathlib.Core.Path.{_≡_, refl, sym, ap, subst, _∙_}
 use mathlib.Core.Bool.{Bool, true, false, cond}

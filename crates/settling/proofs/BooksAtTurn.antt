@@ -33,7 +33,7 @@ use Rattle.settling.specs.Books.{Passes, Books, BooksSized, cell, column
 use Rattle.settling.specs.Inside.{EmissionsOf}
 use Rattle.settling.proofs.Columns.{column-length, column-at}
 
--- what is known of the plants and the segments: there are so many, and each is within its limits
+-- what is known of the plants and the segments: how many there are, and that each is within its limits
 pub record Bounded (counts : Counts) (plants : List Plant) (segments : List Segment) : Type 0 where
   pub counts-within : CountsWithin counts
   pub plants-counted : length plants ≡ counts .plants
@@ -46,7 +46,7 @@ abbrev pub dueAt : Emissions → ℕ → Segment → Due
 dueAt emissions s segment = record { index = s; segment = segment; emission = getD (emissions .segments) s 0 }
 
 module _ (plants : List Plant) (segments : List Segment) where
-  -- where the plants are after so many turns, whatever the lines; and where one of them is
+  -- where the plants are after s turns, whatever the lines; and where one of them is
   abbrev pub after : ℕ → List Standing
   after = turned-after (periodOf plants segments [])
 
@@ -81,7 +81,7 @@ module _ (counts : Counts) (plants : List Plant) (segments : List Segment) where
         settledBy (segmentTests (left plants segments lines 0) ++ rest) settled ≡ settledBy (segmentTests (left plants segments lines s) ++ rest) settled
 
 module _ {counts : Counts} {plants : List Plant} {segments : List Segment} (bounded : Bounded counts plants segments) where
-  -- where the plants are after so many turns, and where one of them is
+  -- where the plants are after s turns, and where one of them is
   abbrev standings : ℕ → List Standing
   standings = after plants segments
 
@@ -96,7 +96,7 @@ module _ {counts : Counts} {plants : List Plant} {segments : List Segment} (boun
   segment-within s below =
       each-at (SegmentWithin counts) 1 segments s noSegment (suc s) (omega arith) (rw (bounded .segments-counted) below) (bounded .each-segment)
 
-  -- all plants are somewhere after so many turns
+  -- all plants are somewhere after s turns
   pub after-length : (s : ℕ) → length (standings s) ≡ counts .plants
   after-length s = turned-length (periodOf plants segments []) s ∙ bounded .plants-counted
 

@@ -45,7 +45,7 @@ module _ {p : ℕ} {should had has : ℕ → ℕ} (filled : UpTo p should had ha
       by-order q (inl e) = rw e here
       by-order q (inr h) = others q (λ e. omega arith) ∙ filled .done q h
 
-  -- nothing changes where the next plant should have what it had
+  -- nothing changes if the next plant should have what it had
   pub one-kept : had p ≡ should p → UpTo (p + 1) should had has
   one-kept e = one-more has (filled .left p (omega arith) ∙ e) (λ q other. refl)
 

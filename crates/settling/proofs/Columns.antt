@@ -1,4 +1,4 @@
--- Laws of a column of the table of amounts: what so many plants bring to one segment.
+-- Laws of a column of the table of amounts: what the first plants bring to one segment.
 use Prim.Native.Nat.{ℕ, _≤_, _<_}
 use mathlib.Core.Path.{_≡_, ap, _∙_}
 use mathlib.Core.List.{List, []}

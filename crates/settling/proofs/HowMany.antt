@@ -17,7 +17,7 @@ use Rattle.accounts.specs.Quantified.{accountsOf}
 use Rattle.accounts.proofs.Accepting.{accounts-length}
 use Rattle.settling.specs.Settled.{segmentAccount, plantAccountAt, Settlement, nothingSettled, settledOf, settledBy, settledPeriod, settledAfter, settlement}
 
--- so many at most
+-- no more than the most
 pub record Few (settled : Settlement) : Type 0 where
   pub plants : length (settled .plants) ≤ mostPlants
   pub segments : length (settled .segments) ≤ mostSegments

@@ -24,17 +24,17 @@ use Rattle.records.specs.declared.line.Line.{Line}
 use Rattle.records.specs.Plants.{mostPlants}
 use Rattle.records.specs.Segments.{mostSegments}
 use Rattle.records.specs.Classes.{plantOwner, segmentOwner}
-use Rattle.records.specs.Lines.{noLine}
+use Rattle.records.specs.Lines.{mostGrams, noLine}
 use Rattle.records.specs.Periods.{line, linesOf}
 use Rattle.records.specs.Within.{CountsWithin}
-use Rattle.accounts.specs.Emissions.{mostGrams, grams, ownedBy, gramsOf, inKg, emission}
+use Rattle.accounts.specs.Emissions.{grams, ownedBy, gramsOf, inKg, emission}
 use Rattle.accounts.specs.Order.{lineTests}
 use Rattle.settling.specs.declared.emissions.Totals.{Totals}
 use Rattle.settling.specs.Inside.{Small, noTotals, gramsAt, overGrams, withLine, firstOver, FewGrams, Rounded, EmissionsOf, noEmissions, andThen, linesRuling, AddedUp}
 use Rattle.settling.proofs.Cells.{zeros, no-amount}
 use Rattle.settling.proofs.Totals.{owners, Owner, place-below, tenOf, Adding, Next, no-totals, grams-there, grams-elsewhere, adding-start, adding-on, adding-refused}
 
--- ---- the loop: so many lines are read, and added up to the first whose owner's total passes the limit, whatever lines follow
+-- ---- the loop: l lines are read, and added up to the first whose owner's total passes the limit, whatever lines follow
 module _ (file : List ℕ) (start : Spot) (counts : Counts) where
   pub record AddingUp (totals : List Totals) (over : ℕ) (at : Spot) (l : ℕ) : Type 0 where
     pub done : List Line
@@ -123,7 +123,7 @@ module _
           (λ is. absurd (some is))
           (λ above. moved (λ (lines : List Line). tenOf lines ≡ refuses (numberOf TooManyGrams) over) (λ later. so-far .past-limit above (one ∷ later)))
 
--- ---- what the lines come to
+-- ---- what adding up the lines gives
 -- nothing is emitted by lines that are refused
 no-small : (why : Refusal) → Small (zeros mostSegments)
 no-small why o = rw (no-amount mostSegments o) (omega arith)

@@ -39,7 +39,7 @@ module _ (own next credit : ℕ) (standing : Standing) where
   abbrev sent : Standing
   sent = sentOn own next standing credit
 
-  -- what it brings to another segment than this one, or has stored where the number is 0
+  -- what it brings to another segment than this one, or has stored if the number is 0
   pub brought : (n : ℕ) → (n ≡ own → ⊥) → cond (passes own standing && eqb n next) credit (brings n standing) ≡ brings n sent
   brought n other = by-test (passes own standing) refl
     where

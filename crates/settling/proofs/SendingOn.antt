@@ -96,7 +96,7 @@ next-below own segment within = ⊎-elim (λ none. omega (arith, none)) (λ some
 pub above-none : (n : ℕ) → eqb n 0 ≡ false → 0 < n
 above-none n e = let some = eqb-false n 0 e in omega (arith, some)
 
--- no credit is over the largest amount where the inflow is not
+-- no credit is over the largest amount if the inflow is not
 pub credits-small :
     (plants : ℕ) (array : List ℕ) (outflow : ℕ) (entering : List ℕ) → take plants array ≡ credits outflow entering →
     outflow ≤ sum entering → sum entering ≤ largest → Small (take plants array)

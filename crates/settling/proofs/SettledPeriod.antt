@@ -1,4 +1,4 @@
--- A period settled, for the plants and segments at the front of two arrays: what its steps ask, and what they come to.
+-- A period settled, for the plants and segments at the front of two arrays: what its steps ask, and what they give.
 use Prim.Native.Nat.{ℕ, suc, _^_, _≤_, _<_}
 use mathlib.Core.Path.{_≡_, refl, sym, ap, _∙_}
 use mathlib.Core.Bool.{Bool, true, false}
@@ -101,7 +101,7 @@ module _ {plantColumns : Plants} {segmentColumns : Segments} {counts : Counts} {
       pub due-within : SegmentWithin mostCounts (suc s) (due .segment)
       due-within = rw (segment-is s more) (segment-within-most (given .counts-within) (suc s) _ (segment-within bounded s more))
 
-      -- what so many plants bring to it
+      -- what the plants bring to it
       abbrev brought : List ℕ
       brought = column (counts .plants) s (books .amounts)
 
@@ -139,7 +139,7 @@ module _ {plantColumns : Plants} {segmentColumns : Segments} {counts : Counts} {
             let period = periodOf plants segments lines in
             kept-refused why (ap (λ (tests : List Test). settledBy tests (settledOf period)) (sym (append-nil (segmentTests (accountsOf period)))) ∙ fails [] (settledOf period))
 
-        -- where all pass the next turn can come
+        -- if all pass, the next turn can come
         pub turned-on : answer ≡ Accepted → Turned (suc s) books'
         turned-on = turn-worked bounded turned more (due .segment) (segment-is s more) worked
 

@@ -72,14 +72,14 @@ joins standings plant p sets so-many few some-first first hold s low high =
     by-test false e = hold s low high ∙ sym (set-without (suc s) standings (atFirst plant) e)
 
 module _ (plants : List Plant) where
-  -- ---- where the first so many plants start: one plant more, and how many there are
+  -- ---- where the first p plants start: one plant more, and how many there are
   one-more : (p : ℕ) → p < length plants → map atFirst (take (p + 1) plants) ≡ map atFirst (take p plants) ++ (atFirst (getD plants p noPlant) ∷ [])
   one-more p h = rw (add-one, take-suc plants p noPlant h) (map-append atFirst (take p plants) (getD plants p noPlant ∷ []))
 
   so-many : (p : ℕ) → p ≤ length plants → length (map atFirst (take p plants)) ≡ p
   so-many p h = length-map (take p plants) atFirst ∙ length-take-le p plants h
 
-  -- ---- the loop: so many plants are at their start, and the others nowhere
+  -- ---- the loop: p plants are at their start, and the others nowhere
   pub record AtStart (p : ℕ) (table : List (List ℕ)) (sets : List ℕ) : Type 0 where
     pub sized : Sized table
     pub amounts : Filled p (λ q s. brings (suc s) (atFirst (getD plants q noPlant))) (λ q s. 0) table

@@ -1,4 +1,4 @@
--- The tests of a segment, in their order: what they come to, whatever tests follow.
+-- The tests of a segment, in their order: what they give, whatever tests follow.
 use Prim.Native.Nat.{ℕ, _+_, _≤_, _<_}
 use mathlib.Core.Path.{_≡_, refl, ap}
 use mathlib.Core.Bool.{false, _&&_, and-false}

@@ -23,12 +23,12 @@ use Rattle.records.specs.declared.line.Line.{Line}
 use Rattle.records.specs.Plants.{mostPlants}
 use Rattle.records.specs.Segments.{mostSegments}
 use Rattle.records.specs.Classes.{plantOwner, segmentOwner}
-use Rattle.records.specs.Lines.{largestFactor, noLine}
+use Rattle.records.specs.Lines.{largestFactor, mostGrams, noLine}
 use Rattle.records.specs.Periods.{line}
 use Rattle.records.specs.Within.{CountsWithin, LineWithin, mostCounts}
 use Rattle.records.proofs.RecordsWithin.{line-within as line-read-within}
 use Rattle.records.proofs.Within.{line-within-most}
-use Rattle.accounts.specs.Emissions.{mostGrams, grams, ownedBy, gramsOf, gramsInKg, inKg}
+use Rattle.accounts.specs.Emissions.{grams, ownedBy, gramsOf, gramsInKg, inKg}
 use Rattle.accounts.specs.Order.{lineTests}
 use Rattle.accounts.proofs.Credits.{up-most}
 use Rattle.accounts.proofs.OwnersLines.{no-grams, grams-with, grams-of-both}
@@ -41,7 +41,7 @@ abbrev pub owners : ℕ
 owners = mostPlants + mostSegments
 
 -- ---- an owner that a line may have, and the place of its total
--- the most owners of a kind are the most plants for plants, and so many more for segments that they are the most segments
+-- the most owners of a kind are the most plants for plants, and the most segments for segments
 pub record Owner (ownerKind owner place : ℕ) : Type 0 where
   pub kind : ownerKind ≤ segmentOwner
   pub some : 1 ≤ owner
@@ -52,7 +52,7 @@ pub record Owner (ownerKind owner place : ℕ) : Type 0 where
 pub place-below : {ownerKind owner place : ℕ} → Owner ownerKind owner place → place < owners
 place-below o = omega arith
 
--- a line is this owner's where the owner of the line has the same place
+-- a line is this owner's exactly if the owner of the line has the same place
 owned :
     {ownerKind owner place place' : ℕ} (line : Line) → Owner (line .«owner_kind») (line .owner) place → Owner ownerKind owner place' →
     ownedBy ownerKind owner line ≡ eqb place' place
@@ -93,7 +93,7 @@ grams-after ownerKind owner lines line =
     let choose = ownedBy ownerKind owner in
     omega (arith, grams-of-both choose lines (line ∷ []), grams-with choose line [], no-grams choose)
 
--- ---- the lines added up one by one: so many are, and passed their tests
+-- ---- the lines added up one by one: the first l are, and passed their tests
 -- what 10 says of some lines
 abbrev pub tenOf : List Line → Verdict
 tenOf lines = testedBy refuses (lineTests lines 0 lines) accepts
@@ -149,7 +149,7 @@ module _ {lines : List Line} {totals : List Totals} {l : ℕ} {line : Line} {pla
       ∙ grams-after ownerKind owner (take l lines) (getD lines l noLine)
       ∙ rw (next .line-is, owned line (next .owner) o, a .total ownerKind owner place' o)
 
-  -- that total is what the line's test looks at
+  -- that total is what the line's test compares
   line-tested :
       tenOf lines
       ≡ cond (ltb mostGrams line-total) (refuses (numberOf TooManyGrams) (suc l)) (testedBy refuses (lineTests lines (suc l) (drop (suc l) lines)) accepts)
@@ -158,7 +158,7 @@ module _ {lines : List Line} {totals : List Totals} {l : ℕ} {line : Line} {pla
       a .passed
       ∙ rw (drop-cons lines l noLine (next .more), next .line-is, total-after (line .«owner_kind») (line .owner) place (next .owner), eq-eqb place place refl)
 
-  -- when it is written at its place, what holds of it there and of the other totals at theirs holds everywhere
+  -- once it is written at its place, what holds of it there and of the other totals at theirs holds everywhere
   written :
       (P : ℕ → ℕ → Type 0) → P place line-total → ((place' : ℕ) → (place' ≡ place → ⊥) → P place' (gramsAt totals place')) →
       (place' : ℕ) → P place' (gramsAt (set totals place (record { grams = line-total })) place')
@@ -194,7 +194,7 @@ module _ {lines : List Line} {totals : List Totals} {l : ℕ} {line : Line} {pla
 few-kg : (total : ℕ) → total ≤ mostGrams → inKg total ≤ largest
 few-kg total few = up-most gramsInKg total largest (omega arith)
 
--- so many totals were rounded, one after another, and none behind them
+-- the totals up to a count of them were rounded, one after another, and none behind them
 pub all-rounded :
     {totals : List Totals} {kg : List ℕ} {first count : ℕ} → FewGrams totals → length kg ≡ mostSegments →
     UpTo count (λ o. inKg (gramsAt totals (first + o))) (λ o. 0) (λ o. getD kg o 0) → Rounded totals first count kg

@@ -38,7 +38,7 @@ module _
     {counts : Counts} {plants : List Plant} {segments : List Segment} (bounded : Bounded counts plants segments)
     {emissions : Emissions} {s : ℕ} {books : Books} (now : AtTurn counts plants segments emissions s books)
     (below : s < counts .segments) (segment : Segment) (is-next : segment ≡ getD segments s noSegment) where
-  -- where the plants are after so many turns, and where one of them is
+  -- where the plants are after s turns, and where one of them is
   abbrev standings : ℕ → List Standing
   standings = after plants segments
 

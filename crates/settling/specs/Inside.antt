@@ -1,4 +1,4 @@
--- What the private functions of the accounts promise to their callers. Nothing here is needed to read the promise of the call.
+-- What the private functions promise to their callers. Nothing here is needed to read the promise of `settle`.
 use Prim.Native.Nat.{ℕ, zero, suc, _+_, _-_, _*_, _^_, _≤_, _<_, min}
 use mathlib.Core.Path.{_≡_}
 use mathlib.Core.Bool.{cond, _&&_}
@@ -19,10 +19,11 @@ use Rattle.records.specs.declared.line.Line.{Line}
 use Rattle.records.specs.Plants.{mostPlants}
 use Rattle.records.specs.Segments.{mostSegments}
 use Rattle.records.specs.Classes.{plantOwner, segmentOwner}
+use Rattle.records.specs.Lines.{mostGrams}
 use Rattle.records.specs.Periods.{Period, periodOf, linesOf}
 use Rattle.records.specs.Within.{CountsWithin, PlantWithin, SegmentWithin}
 use Rattle.accounts.specs.Sums.{roundedUp}
-use Rattle.accounts.specs.Emissions.{mostGrams, grams, inKg, emission}
+use Rattle.accounts.specs.Emissions.{grams, inKg, emission}
 use Rattle.accounts.specs.Order.{lineTests, segmentTests}
 use Rattle.accounts.specs.Quantified.{accountsOf}
 use Rattle.settling.specs.declared.account.PlantAccounts.{PlantAccounts}
@@ -37,37 +38,37 @@ use Rattle.settling.specs.Settled.{Settlement, settledOf, settledBy, Set
 use Rattle.settling.specs.Kept.{plantsBy, segmentBy, segmentsBy, PlantsFilled, SegmentsFilled}
 use Rattle.settling.specs.Books.{Sized}
 
--- no number is over the largest
+-- No number is over the largest (rule 1.4).
 abbrev pub Small : List ℕ → Type 0
 Small numbers = (i : ℕ) → getD numbers i 0 ≤ largest
 
--- ---- the owners' totals in one array: the plants' places, and behind room for the most of them the segments'
+-- ---- the owners' totals in one array: places for the most plants, and behind them for the segments
 abbrev pub ownerPlace : (ownerKind owner : ℕ) → ℕ
 ownerPlace ownerKind owner = mostPlants * ownerKind + owner - 1
 
--- of no line; and the grams of the owner at a place
+-- The totals of no line, and below the grams of the owner at a place.
 abbrev pub noTotals : Totals
 noTotals = record { grams = 0 }
 
 abbrev pub gramsAt : List Totals → ℕ → ℕ
 gramsAt totals o = getD totals o noTotals .grams
 
--- grams are counted up to one more than the limit
+-- Grams are counted up to one more than the limit (rule 9.3).
 abbrev pub overGrams : ℕ
 overGrams = mostGrams + 1
 
 abbrev pub withLine : Totals → Line → Totals
 withLine totals line = record { grams = min (totals .grams + grams line) overGrams }
 
--- the first line that passes the limit, and 0 while there is none
+-- The first line that passes the limit, 0 if there is none yet (rule 8.5).
 abbrev pub firstOver : ℕ → Totals → ℕ → ℕ
 firstOver over total line = cond (eqb over 0 && ltb mostGrams (total .grams)) line over
 
--- no total passes the limit
+-- No total passes the limit (rule 8.5).
 abbrev pub FewGrams : List Totals → Type 0
 FewGrams totals = (o : ℕ) → gramsAt totals o ≤ mostGrams
 
--- so many totals, of which the first has this place, in kg, and zeros behind them
+-- `count` totals in kg, from the one at the place `first` on, and zeros behind them (rule 4.3).
 pub record Rounded (totals : List Totals) (first count : ℕ) (kg : List ℕ) : Type 0 where
   pub sized : length kg ≡ mostSegments
   pub each : (o : ℕ) → o < count → getD kg o 0 ≡ inKg (gramsAt totals (first + o))
@@ -75,56 +76,56 @@ pub record Rounded (totals : List Totals) (first count : ℕ) (kg : List ℕ) : 
   pub small : Small kg
 
 -- ---- emissions
--- no owner emits more than the largest number
+-- No owner emits more than the largest number (rule 9.3).
 pub record SmallEmissions (emissions : Emissions) : Type 0 where
   pub plants : Small (emissions .plants)
   pub segments : Small (emissions .segments)
   pub sized : length (emissions .segments) ≡ mostSegments
 
--- every owner emits what the lines say, and nobody else anything
+-- Every plant and segment emits what the lines say, and there are zeros behind the segments (rule 4.3).
 pub record EmissionsOf (counts : Counts) (lines : List Line) (emissions : Emissions) : Type 0 where
   pub plants : (p : ℕ) → p < counts .plants → getD (emissions .plants) p 0 ≡ emission plantOwner (suc p) lines
   pub segments : (s : ℕ) → s < counts .segments → getD (emissions .segments) s 0 ≡ emission segmentOwner (suc s) lines
   pub behind : (s : ℕ) → counts .segments ≤ s → getD (emissions .segments) s 0 ≡ 0
 
--- what the lines are refused with
+-- The answer for lines that are refused.
 abbrev pub noEmissions : Refusal → Emissions
 noEmissions why = record { answer = Refused why; plants = replicate mostSegments 0; segments = replicate mostSegments 0 }
 
--- one verdict, and then another
+-- One verdict, and then another: the first refusal decides.
 abbrev pub andThen : Verdict → Verdict → Verdict
 andThen (refuses number place) later = refuses number place
 andThen accepts later = later
 
--- what is said of the lines that are read: first the end of the file, and then 10 over the lines
+-- What is said of the lines that are read: first the end of the file, then 10 over the lines (rules 8.4 and 8.5).
 abbrev pub linesRuling : List ℕ → Reach (List Line) → Verdict
 linesRuling file (whole lines last) = andThen (endAt file last) (testedBy refuses (lineTests lines 0 lines) accepts)
 linesRuling file (stopped number place) = refuses number place
 
--- what adding them up comes to
+-- What adding them up gives: the verdict and, if it is acceptance, the emissions (rules 4.3, 8.4 and 8.5).
 pub record AddedUp (file : List ℕ) (start : Spot) (counts : Counts) (r : Emissions) : Type 0 where
   pub verdict : said (r .answer) ≡ linesRuling file (readsFrom (linesOf counts) file start)
   pub emitted : r .answer ≡ Accepted → (lines : List Line) (last : Spot) → readsFrom (linesOf counts) file start ≡ whole lines last → EmissionsOf counts lines r
   pub small : SmallEmissions r
 
 -- ---- what is charged, by the books
--- what a plant can be charged for without passing the numbers of the machine
+-- What a plant can be charged for without passing the numbers of the machine (rule 9.3).
 abbrev pub Chargeable : (amounts inflows emissions : List ℕ) → (segments : ℕ) → Type 0
 Chargeable amounts inflows emissions segments =
     (s : ℕ) → s < segments → (getD amounts s 0 ≤ getD inflows s 0) × (getD inflows s 0 ≤ largest) × (getD emissions s 0 ≤ largest)
 
--- the charges of so many segments for a plant's amounts
+-- What the first `segments` segments charge for a plant's amounts (rule 6.1).
 unfoldable pub chargesBy : (amounts inflows emissions : List ℕ) → (segments : ℕ) → ℕ
 chargesBy amounts inflows emissions zero = 0
 chargesBy amounts inflows emissions (suc s) =
     chargesBy amounts inflows emissions s + roundedUp (getD amounts s 0 * getD emissions s 0) (getD inflows s 0)
 
 module _ (table : List (List ℕ)) (inflows : List ℕ) (emissions : Emissions) (counts : Counts) where
-  -- what is associated with a plant
+  -- What is associated with a plant (rule 6.2).
   abbrev pub associatedBy : ℕ → ℕ
   associatedBy p = getD (emissions .plants) p 0 + chargesBy (getD table p []) inflows (emissions .segments) (counts .segments)
 
-  -- what this asks of the books
+  -- What this asks of the books.
   pub record AllChargeable : Type 0 where
     pub counts-within : CountsWithin counts
     pub sized : Sized table
@@ -132,16 +133,16 @@ module _ (table : List (List ℕ)) (inflows : List ℕ) (emissions : Emissions) 
     pub small : SmallEmissions emissions
     pub each : (p : ℕ) → p < counts .plants → Chargeable (getD table p []) inflows (emissions .segments) (counts .segments)
 
-  -- and what is found, with zeros behind
+  -- What is found, with zeros behind (rule 6.2).
   abbrev pub Associated : List ℕ → Type 0
   Associated found = found ≡ filled 0 mostPlants (listed associatedBy 0 (counts .plants))
 
 -- ---- the accounts, by the books
--- the first so many numbers are small
+-- The first `count` numbers fit 32 bits.
 abbrev pub SmallUpTo : ℕ → List ℕ → Type 0
 SmallUpTo count numbers = (i : ℕ) → i < count → getD numbers i 0 < 2 ^ 32
 
--- what the accounts of so many plants ask, and what they are
+-- What the accounts of `count` plants ask, and below what they are.
 pub record PlantsCounted (stored : List ℕ) (count : ℕ) : Type 0 where
   pub most-plants : count ≤ mostPlants
   pub sized : length stored ≡ mostPlants
@@ -153,7 +154,7 @@ pub record PlantColumnsBy (plants : Plants) (stored associated : List ℕ) (coun
   pub stored-is : r .stored ≡ filled 0 mostPlants (take count stored)
   pub associated-is : r .associated ≡ associated
 
--- the same of segments
+-- The same for segments.
 pub record SegmentsCounted (inflows sets : List ℕ) (count : ℕ) : Type 0 where
   pub most-segments : count ≤ mostSegments
   pub inflows-sized : length inflows ≡ mostSegments
@@ -168,7 +169,7 @@ pub record SegmentColumnsBy (segments : Segments) (inflows emission sets : List 
   pub plants-are : r .plants ≡ filled 0 mostSegments (take count sets)
 
 -- ---- a period settled, whatever its lines, as long as the owners emit what the lines say
--- what settling asks of the plants and the segments, and of the emissions
+-- What settling asks of the plants and the segments, and of the emissions.
 pub record Given (plants : Plants) (segments : Segments) (counts : Counts) (emissions : Emissions) : Type 0 where
   pub counts-within : CountsWithin counts
   pub each-plant : Each (PlantWithin counts) 1 (plantsBy plants (counts .plants))
@@ -177,15 +178,15 @@ pub record Given (plants : Plants) (segments : Segments) (counts : Counts) (emis
   pub segments-filled : SegmentsFilled segments (counts .segments)
   pub small : SmallEmissions emissions
 
--- the segment at an index, when its turn comes
+-- The segment at an index, when its turn comes (rule 5.1).
 abbrev pub dueBy : Segments → Emissions → ℕ → Due
 dueBy segments emissions s = record { index = s; segment = segmentBy segments s; emission = getD (emissions .segments) s 0 }
 
--- its settlement by the tests after those of the lines
+-- The settlement of a period by the tests after those of the lines (rule 8.6).
 abbrev pub workedOff : Period → Settlement
 workedOff period = settledBy (segmentTests (accountsOf period)) (settledOf period)
 
--- settling comes to that, for all such lines
+-- Settling gives that, for all such lines.
 abbrev pub SettledBy : Plants → Segments → Counts → Emissions → Settled → Type 0
 SettledBy plants segments counts emissions r =
     (lines : List Line) → EmissionsOf counts lines emissions →

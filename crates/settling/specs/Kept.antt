@@ -1,4 +1,4 @@
--- The plants and the segments of a file as the code keeps them, column by column. No public promise rests on these.
+-- The plants and the segments of a file as the code keeps them, column by column. No public promise needs these.
 use Prim.Native.Nat.{ℕ}
 use mathlib.Core.Path.{_≡_}
 use mathlib.Core.List.{List, map}
@@ -26,7 +26,7 @@ plantColumns exported first fraction = record { exported = exported; first = fir
 abbrev pub segmentColumns : (kind outflow next : List ℕ) → Segments
 segmentColumns kind outflow next = record { kind = kind; outflow = outflow; next = next }
 
--- the record at an index, and so many of them
+-- The record at an index, and below the first of them up to a count; the same for segments.
 abbrev pub plantBy : Plants → ℕ → Plant
 plantBy columns p = plantOf (getD (columns .exported) p 0) (getD (columns .first) p 0) (getD (columns .fraction) p 0)
 
@@ -39,7 +39,7 @@ segmentBy columns s = segmentOf (getD (columns .kind) s 0) (getD (columns .outfl
 abbrev pub segmentsBy : Segments → ℕ → List Segment
 segmentsBy columns = listed (segmentBy columns) 0
 
--- they have zeros behind the records
+-- The columns have zeros behind the records.
 pub record PlantsFilled (columns : Plants) (count : ℕ) : Type 0 where
   pub exported : columns .exported ≡ filled 0 mostPlants (map (λ (plant : Plant). plant .exported) (plantsBy columns count))
   pub fraction : columns .fraction ≡ filled 0 mostPlants (map (λ (plant : Plant). plant .fraction) (plantsBy columns count))
@@ -47,7 +47,7 @@ pub record PlantsFilled (columns : Plants) (count : ℕ) : Type 0 where
 abbrev pub SegmentsFilled : Segments → ℕ → Type 0
 SegmentsFilled columns count = columns .outflow ≡ filled 0 mostSegments (map (λ (segment : Segment). segment .outflow) (segmentsBy columns count))
 
--- what reading them comes to
+-- What reading them gives: all are read and kept, or one is refused (rules 2.4, 2.5 and 8.3).
 abbrev pub PlantsKept : List ℕ → Spot → Counts → ReadRecords → Plants → Type 0
 PlantsKept file start counts (ReadRecords.Whole next) columns =
     (readsFrom (plantsOf counts) file start ≡ whole (plantsBy columns (counts .plants)) next) × PlantsFilled columns (counts .plants)
@@ -58,7 +58,7 @@ SegmentsKept file start counts (ReadRecords.Whole next) columns =
     (readsFrom (segmentsOf counts) file start ≡ whole (segmentsBy columns (counts .segments)) next) × SegmentsFilled columns (counts .segments)
 SegmentsKept file start counts (ReadRecords.Refused refusal) columns = readsFrom (segmentsOf counts) file start ≡ stoppedBy refusal
 
--- the header and the plants of a file are read, up to a spot; and then the segments
+-- The header and the plants of a file are read, up to a spot; below the segments, too (rule 2.2).
 pub record PlantsPast (file : List ℕ) (counts : Counts) (plants : Plants) (next : Spot) : Type 0 where
   pub first : Spot
   pub header-read : readsFrom header file firstSpot ≡ whole counts first

@@ -1,4 +1,4 @@
--- What a file comes to before any table is looked at: whether it is refused (1 to 13), and what every plant and every segment has then.
+-- What a file gives before any table is looked at: whether it is refused (1 to 13), and the figures of every plant and segment.
 use Prim.Native.Nat.{ℕ}
 use mathlib.Core.Path.{_≡_}
 use mathlib.Core.List.{List, [], _++_, map}
@@ -32,7 +32,7 @@ pub record SegmentAccount : Type 0 where
   pub emission : ℕ
   pub plants : ℕ
 
--- That of the plant at an index: stored is what it has when all segments have had their turn.
+-- The account of the plant at an index from 0; stored is what it has after all turns (rules 5.6 and 6.2).
 abbrev pub plantAccountAt : Period → ℕ → PlantAccount
 plantAccountAt period index = record {
   exported = getD (period .plants) index noPlant .exported;
@@ -41,11 +41,11 @@ plantAccountAt period index = record {
   associated = associated (period .lines) (accountsOf period) index;
 }
 
--- That of a segment.
+-- The account of a segment (rule 7.2).
 abbrev pub segmentAccount : Account → SegmentAccount
 segmentAccount a = record { inflow = a .inflow; outflow = a .outflow; emission = a .emission; plants = a .plants }
 
--- Those of a period's plants and segments, in their order.
+-- The accounts of a period's plants, and below of its segments, in their order.
 abbrev pub plantAccounts : Period → List PlantAccount
 plantAccounts period = listed (plantAccountAt period) 0 (length (period .plants))
 
@@ -62,32 +62,33 @@ pub record Settlement : Type 0 where
 abbrev pub nothingSettled : (number place : ℕ) → Settlement
 nothingSettled number place = record { verdict = refuses number place; plants = []; segments = [] }
 
+-- An accepted period has those of all its plants and segments.
 abbrev pub settledOf : Period → Settlement
 settledOf period = record { verdict = accepts; plants = plantAccounts period; segments = segmentAccounts period }
 
--- The first test that fails refuses; where none does, the settlement stands.
+-- The first test that fails refuses; if none fails, the given settlement is the answer (rule 8.8).
 abbrev pub settledBy : List Test → Settlement → Settlement
 settledBy = testedBy nothingSettled
 
--- A period that was read, put to the tests of its lines and then of its segments: 10 to 13.
+-- The settlement of a period that was read, by the tests of its lines and then of its segments (rules 8.5 and 8.6).
 unfoldable pub settledPeriod : Period → Settlement
 settledPeriod period = settledBy (lineTests (period .lines) 0 (period .lines) ++ segmentTests (accountsOf period)) (settledOf period)
 
--- What reading came to, and then these tests.
+-- A refusal of reading decides; a period that was read is settled (rule 8.8).
 abbrev pub settledAfter : Read Period → Settlement
 settledAfter (refused number place) = nothingSettled number place
 settledAfter (read period place rest) = settledPeriod period
 
--- The settlement of a file.
+-- The settlement of a file (rules 8.3 to 8.6).
 unfoldable pub settlement : List ℕ → Settlement
 settlement file = settledAfter (periodFile file)
 
 -- ---- the promise of the call
--- A column: one figure of each account, in an array with so much room, and zeros behind.
+-- A column: one figure of each account, in an array with `room` entries, and zeros behind.
 abbrev pub columnOf : {A : Type 0} → ℕ → (A → ℕ) → List A → List ℕ
 columnOf room figure accounts = filled 0 room (map figure accounts)
 
--- The columns of plants, and of segments.
+-- The columns of plants, and below of segments.
 pub record PlantColumns (r : PlantAccounts) (accounts : List PlantAccount) : Type 0 where
   pub exported : r .exported ≡ columnOf mostPlants (λ (a : PlantAccount). a .exported) accounts
   pub fraction : r .fraction ≡ columnOf mostPlants (λ (a : PlantAccount). a .fraction) accounts
@@ -108,6 +109,6 @@ pub record Settles (r : Settled) (settled : Settlement) : Type 0 where
   pub plants : PlantColumns (r .plants) (settled .plants)
   pub segments : SegmentColumns (r .segments) (settled .segments)
 
--- It is the settlement of the file.
+-- The promise of `settle`: its answer is the settlement of the file (rules 4.1 to 6.2 and 8.1 to 8.6).
 abbrev pub SettlePromise : List ℕ → Settled → Type 0
 SettlePromise file r = Settles r (settlement file)

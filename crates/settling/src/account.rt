@@ -1,5 +1,4 @@
-// What a settled period holds of its plants and segments: the figures that their rows are made of, column
-// by column, with zeros behind the last.
+// The figures that the rows of plants and segments are made of, column by column, with zeros behind the last (rules 7.1 and 7.2).
 ghost use mathlib.Core.Path.{_≡_};
 ghost use Prim.Native.Nat.{_≤_};
 ghost use lib.ListN.{length, replicate, take};
@@ -12,24 +11,24 @@ use records::Plant;
 use records::Segment;
 
 pub struct PlantAccounts {
-    // What each plant exported, and its origin fraction, in millionths.
+    // What each plant exported, in kg, and its origin fraction, in millionths (rule 2.4).
     pub exported: [u32; Plant::MOST],
     pub fraction: [u32; Plant::MOST],
-    // What is stored for it, and what is associated with it, in kg.
+    // What is stored for it and what is associated with it, in kg (rules 5.6 and 6.2).
     pub stored: [u32; Plant::MOST],
     pub associated: [u64; Plant::MOST],
 }
 
 pub struct SegmentAccounts {
-    // What came into each segment, what went out by its meter, and what it emits, in kg.
+    // The inflow of each segment, its metered outflow and its emission, in kg (rules 2.5, 4.3 and 5.3).
     pub inflow: [u32; Segment::MOST],
     pub outflow: [u32; Segment::MOST],
     pub emission: [u64; Segment::MOST],
-    // The set of the plants whose routes pass it, plant 1 in the lowest bit.
+    // The set of the plants whose routes pass it, plant 1 in the lowest bit (rule 5.7).
     pub plants: [u32; Segment::MOST],
 }
 
-// The accounts of so many plants, by what is stored for each and associated with it.
+// The accounts of `count` plants, by what is stored for each and associated with it.
 pub(crate) fn plant_accounts(
     plants: Plants,
     stored: [u64; Plant::MOST],
@@ -51,7 +50,7 @@ pub(crate) fn plant_accounts(
     }
 }
 
-// The accounts of so many segments, by the inflow, the emission and the set of each.
+// The accounts of `count` segments, by the inflow, the emission and the set of each.
 pub(crate) fn segment_accounts(
     segments: Segments,
     inflows: [u64; Segment::MOST],
@@ -76,7 +75,7 @@ pub(crate) fn segment_accounts(
     }
 }
 
-// Copies the first so many numbers of a column into one of 32 bits, which had zeros.
+// Copies the first `count` numbers of a column into one of 32 bits, which had zeros.
 fn narrow(from: &[u64], to: &mut [u32], count: usize)
     requires { ⌜ (count ≤ length (now from)) × (count ≤ length (now to)) ⌝ }
     requires { ⌜ SmallUpTo count (now from) ⌝ }

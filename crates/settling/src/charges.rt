@@ -1,4 +1,4 @@
-// Charges: what the segments' emissions come to for each plant, by the amounts that it brought.
+// What the segments charge to each plant, by the amounts that it brought (rules 6.1 and 6.2).
 ghost use mathlib.Core.Path.{_≡_};
 ghost use Prim.Native.Nat.{_*_, _≤_};
 ghost use lib.ListN.{length};
@@ -11,7 +11,7 @@ use records::Counts;
 use records::Plant;
 use records::Segment;
 
-// What is associated with each plant: what it emits itself, and what it is charged on its route.
+// What is associated with each plant: what it emits itself, and what it is charged on its route (rule 6.2).
 pub(crate) fn associated_with(
     amounts: &[[u32; Segment::MOST]; Plant::MOST],
     inflows: &[u64; Segment::MOST],
@@ -32,7 +32,7 @@ pub(crate) fn associated_with(
     associated
 }
 
-// What so many segments charge to a plant for the amounts that it brings.
+// What the first `segments` segments charge to a plant for the amounts that it brings (rule 6.1).
 fn charges(
     amounts: &[u32; Segment::MOST],
     inflows: &[u64; Segment::MOST],

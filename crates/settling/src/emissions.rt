@@ -1,4 +1,4 @@
-// What an owner emits: the grams of its lines, added up as they are read, and then rounded up to a kg.
+// What an owner emits: the grams of its lines, added up as they are read, then rounded up to a kg once (rules 4.1 to 4.3 and 8.5).
 ghost use mathlib.Core.Path.{_≡_};
 ghost use Prim.Native.Nat.{_+_, _≤_};
 ghost use Rattle.records.specs.Plants.{mostPlants};
@@ -18,33 +18,30 @@ use records::Line;
 use records::Plant;
 use records::Segment;
 
-// What the lines of an owner come to so far.
+// The totals of an owner's lines so far.
 pub(crate) struct Totals {
-    // Its grams. Past the limit they are no longer counted.
+    // Its grams; past the limit they are no longer counted (rule 9.3).
     pub(crate) grams: u64,
 }
 
 impl Totals {
-    // The most grams of one owner.
-    pub(crate) const MOST_GRAMS: u64 = 4_000_000_000_000;
-
-    // Of no line.
+    // The totals of no line.
     fn none() -> Totals
         ensures { λ r. ⌜ r ≡ noTotals ⌝ }
     {
         Totals { grams: 0 }
     }
 
-    // With one line more.
+    // The totals with one line more (rules 4.1 and 4.2).
     fn with(self, line: Line) -> Totals
         requires { ⌜ self .grams ≤ overGrams ⌝ }
         requires { ⌜ LineWithin mostCounts 1 line ⌝ }
         ensures { λ r. ⌜ r ≡ withLine self line ⌝ }
     {
         let grams = self.grams + line.quantity as u64 * line.factor as u64;
-        if Totals::MOST_GRAMS < grams {
+        if Line::MOST_GRAMS < grams {
             Totals {
-                grams: Totals::MOST_GRAMS + 1,
+                grams: Line::MOST_GRAMS + 1,
             }
         } else {
             Totals { grams }
@@ -52,8 +49,7 @@ impl Totals {
     }
 }
 
-// What the owners emit: accepted where the lines are read to the end of the file and no total passes the
-// limit.
+// What the owners emit: accepted if the lines are read to the end of the file and no total passes the limit (rules 4.3 and 8.5).
 pub(crate) struct Emissions {
     pub(crate) answer: Answer,
     // The kg of each plant and of each segment, by its index.
@@ -69,9 +65,7 @@ impl Emissions {
     pub(crate) const PLACES: usize = Plant::MOST + Segment::MOST;
 }
 
-// Adds up the lines of a file, of which the first starts at a spot, owner by owner as they come. The first
-// line whose owner's total passes the limit is remembered: it is the answer where reading to the end of the
-// file refuses nothing.
+// Adds up the lines from a spot on. The first line that passes the limit is the answer only if the file is read to its end (rules 4.2 and 8.5).
 pub(crate) fn add_up(file: &[u8], start: Spot, counts: Counts) -> Emissions
     requires { ⌜ CountsWithin counts ⌝ }
     ensures { λ r. ⌜ AddedUp (now (file .entry)) start counts r ⌝ }
@@ -119,18 +113,17 @@ fn place_of(line: Line) -> usize
     Plant::MOST * line.owner_kind as usize + line.owner as usize - 1
 }
 
-// The first line whose owner's total passes the limit, and 0 while there is none: the one that was, or else
-// this one, with its owner's total.
+// The first line whose owner's total passes the limit, 0 if there is none yet: the one found before, or else this one (rule 8.5).
 fn first_over(over: u64, total: Totals, line: u64) -> u64
     ensures { λ r. ⌜ r ≡ firstOver over total line ⌝ }
 {
-    if total.grams <= Totals::MOST_GRAMS {
+    if total.grams <= Line::MOST_GRAMS {
         return over;
     }
     if over == 0 { line } else { over }
 }
 
-// The lines are refused.
+// The answer for lines that are refused.
 fn refused(refusal: Refusal) -> Emissions
     ensures { λ r. ⌜ r ≡ noEmissions refusal ⌝ }
 {
@@ -141,7 +134,7 @@ fn refused(refusal: Refusal) -> Emissions
     }
 }
 
-// The totals of so many owners in kg, of whom the first has this place; zeros behind them.
+// The totals of `count` owners in kg, from the one at the place `first` on; zeros behind them (rule 4.3).
 fn in_kg(
     totals: [Totals; Emissions::PLACES],
     first: usize,

@@ -1,7 +1,5 @@
-// Inflow and credit: the plants' amounts on their way, in a table of plants by segments.
-//
-// A plant has an amount at the segments of its route and 0 elsewhere. A segment's set tells which
-// plants' routes pass it, also those that bring 0.
+// Inflow and credit: the plants' amounts on their way, in a table of plants by segments (rules 5.1 to 5.7).
+// A plant has 0 at a segment that its route does not pass; a segment's set tells which plants pass it, also those that bring 0.
 ghost use mathlib.Core.Path.{_≡_};
 ghost use mathlib.Core.List.{[], _∷_};
 ghost use Prim.Native.Nat.{_^_, _≤_, _<_, suc};
@@ -33,7 +31,7 @@ pub(crate) struct Due {
     pub(crate) emission: u64,
 }
 
-// Puts every plant's export at its first segment, and the plant into that segment's set.
+// Puts every plant's export at its first segment, and the plant into that segment's set (rules 5.2 and 5.7).
 pub(crate) fn start(
     amounts: &mut [[u32; Segment::MOST]; Plant::MOST],
     sets: &mut [u64; Segment::MOST],
@@ -55,7 +53,7 @@ pub(crate) fn start(
     }
 }
 
-// Works one segment: tests it, notes its inflow, and sends the plants of its set on with their credits.
+// Works one segment: tests it, notes its inflow, and sends the plants of its set on with their credits (rules 5.3 to 5.7 and 8.6).
 pub(crate) fn work(
     amounts: &mut [[u32; Segment::MOST]; Plant::MOST],
     sets: &mut [u64; Segment::MOST],
@@ -92,7 +90,7 @@ pub(crate) fn work(
     answer
 }
 
-// The inflow: what all plants bring. One whose route does not pass has 0 there.
+// The inflow: what all plants bring. One whose route does not pass has 0 there (rule 5.3).
 fn inflow_of(amounts: &[[u32; Segment::MOST]; Plant::MOST], plants: usize, s: usize) -> u64
     requires { ⌜ plants ≤ mostPlants ⌝ }
     requires { ⌜ s < mostSegments ⌝ }
@@ -109,7 +107,7 @@ fn inflow_of(amounts: &[[u32; Segment::MOST]; Plant::MOST], plants: usize, s: us
     inflow
 }
 
-// The tests of the segment with its own number, in their order.
+// The tests of the segment with its own number, in their order (rule 8.6).
 fn test(own: u64, inflow: u64, outflow: u64, emission: u64) -> Answer
     ensures { λ r. ⌜ Passes (said r) (segmentTests (figures own inflow outflow emission ∷ [])) ⌝ }
 {
@@ -125,7 +123,7 @@ fn test(own: u64, inflow: u64, outflow: u64, emission: u64) -> Answer
     Answer::Accepted
 }
 
-// Every plant's credit, plant after plant, by the running sums of the amounts.
+// Every plant's credit, plant after plant, by the running sums of the amounts (rule 5.4).
 fn credits(
     amounts: &[[u32; Segment::MOST]; Plant::MOST],
     plants: usize,
@@ -156,7 +154,7 @@ fn credits(
     credits
 }
 
-// Whether a set has the plant at an index: whether that bit is set.
+// Whether a set has the plant at an index: whether that bit is set (rule 5.7).
 fn has(set: u64, p: usize) -> bool
     requires { ⌜ p < mostPlants ⌝ }
     ensures { λ r. ⌜ r ≡ hasBit set p ⌝ }
@@ -164,7 +162,7 @@ fn has(set: u64, p: usize) -> bool
     set >> p & 1 == 1
 }
 
-// Notes what is credited at a store as stored, for the plants of its set.
+// Notes what is credited at a store as stored, for the plants of its set (rule 5.6).
 fn store(stored: &mut [u64; Plant::MOST], plants: usize, set: u64, credits: [u64; Plant::MOST])
     requires { ⌜ plants ≤ mostPlants ⌝ }
     requires { ⌜ length (now stored) ≡ mostPlants ⌝ }
@@ -179,7 +177,7 @@ fn store(stored: &mut [u64; Plant::MOST], plants: usize, set: u64, credits: [u64
     }
 }
 
-// Brings what was credited to the next segment, for the plants of a set.
+// Brings what was credited to the next segment, for the plants of a set (rule 5.5).
 fn send(
     amounts: &mut [[u32; Segment::MOST]; Plant::MOST],
     plants: usize,

@@ -1,9 +1,6 @@
-// The accounts of a period, settled (01, "The equations, made exact"): its file is read, what its lines
-// emit is added up as they come, its segments are worked in rising number, and what that comes to for each
-// plant and each segment is answered. No table is looked at here.
-//
-// What each step has to come to is said by the definitions of the crate `accounts`; the promise of the
-// call is an equation with what specs/ makes of them.
+// A period file settled, before any table is looked at: the answer, and what the rows are made of (rules 4.1 to 6.2 and 8.1 to 8.6).
+// The file is read, each line is added to its owner's total as it comes, and the segments are worked in rising number.
+// What each step has to give is defined in `accounts`; the promise of `settle` is an equation with that (specs/Settled.antt).
 pub mod account;
 mod arithmetic;
 mod charges;

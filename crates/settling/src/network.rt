@@ -1,4 +1,4 @@
-// The plants and the segments of a file, read one after another and kept column by column.
+// The plants and the segments of a file, read one after another and kept column by column (rules 2.2, 2.4 and 2.5).
 ghost use mathlib.Core.Path.{_≡_};
 ghost use lib.ListN.{replicate};
 ghost use Rattle.records.specs.Plants.{mostPlants};
@@ -29,7 +29,7 @@ pub(crate) struct Segments {
     pub(crate) next: [u32; Segment::MOST],
 }
 
-// Reads as many plants as the header announced, of which the first starts at a spot, into three columns.
+// Reads as many plants as the header announced, of which the first starts at a spot, into three columns (rule 2.4).
 pub(crate) fn read_plants(
     file: &[u8],
     start: Spot,
@@ -59,7 +59,7 @@ pub(crate) fn read_plants(
     ReadRecords::Whole(at)
 }
 
-// Reads as many segments as the header announced, likewise.
+// The same for the segments (rule 2.5).
 pub(crate) fn read_segments(
     file: &[u8],
     start: Spot,

@@ -1,4 +1,4 @@
-// A period settled: its file is read part by part, its segments are worked in rising number.
+// A period settled: its file is read part by part, and its segments are worked in rising number (rules 5.1 and 8.1 to 8.6).
 ghost use mathlib.Core.Path.{_≡_};
 ghost use Rattle.fields.specs.Spots.{firstSpot};
 ghost use Rattle.fields.specs.Reaching.{readsFrom, whole};
@@ -30,8 +30,7 @@ use records::Counts;
 use records::Plant;
 use records::Segment;
 
-// What a file comes to before any table is looked at: the answer, how many plants and segments there are,
-// and their accounts. A refused file has none.
+// What a file gives before any table is looked at: the answer, and the counts and accounts of plants and segments, none if it is refused.
 pub struct Settled {
     pub answer: Answer,
     pub plant_count: u32,
@@ -40,7 +39,7 @@ pub struct Settled {
     pub segments: SegmentAccounts,
 }
 
-// Settles a file of any length and content.
+// Settles a file of any length and content (rules 4.1 to 6.2 and 8.1 to 8.6).
 pub fn settle(file: &[u8]) -> Settled
     ensures { λ r. ⌜ SettlePromise (now (file .entry)) r ⌝ }
 {
@@ -50,7 +49,7 @@ pub fn settle(file: &[u8]) -> Settled
     }
 }
 
-// Settles a file whose header announced so many records, the first of which starts at a spot.
+// Settles a file whose header announced these counts, and whose first plant starts at a spot.
 fn settle_records(file: &[u8], start: Spot, counts: Counts) -> Settled
     requires { ⌜ readsFrom header (now file) firstSpot ≡ whole counts start ⌝ }
     ensures { λ r. ⌜ SettlePromise (now (file .entry)) r ⌝ }
@@ -77,7 +76,7 @@ fn settle_records(file: &[u8], start: Spot, counts: Counts) -> Settled
     }
 }
 
-// The same of a file whose plants are read, and whose first segment starts at a spot.
+// The same for a file whose plants are read, and whose first segment starts at a spot.
 fn settle_from_segments(file: &[u8], start: Spot, counts: Counts, plants: Plants) -> Settled
     requires { ⌜ PlantsPast (now file) counts plants start ⌝ }
     ensures { λ r. ⌜ SettlePromise (now (file .entry)) r ⌝ }
@@ -97,7 +96,7 @@ fn settle_from_segments(file: &[u8], start: Spot, counts: Counts, plants: Plants
     }
 }
 
-// The same of a file whose plants and segments are read, and whose first line starts at a spot.
+// The same for a file whose plants and segments are read, and whose first line starts at a spot.
 fn settle_from_lines(
     file: &[u8],
     start: Spot,
@@ -116,7 +115,7 @@ fn settle_from_lines(
     settle_period(plants, segments, counts, emissions)
 }
 
-// Settles a period of so many plants and segments, whose owners emit so many kg.
+// Settles a period of these plants and segments, whose owners emit these kg (rules 5.1 to 6.2).
 fn settle_period(
     plants: Plants,
     segments: Segments,
@@ -168,7 +167,7 @@ fn settle_period(
     }
 }
 
-// What a refused file comes to.
+// What a refused file is settled as.
 fn refused(refusal: Refusal) -> Settled
     ensures { λ r. ⌜ r ≡ nothingKept refusal ⌝ }
 {

@@ -9,7 +9,7 @@ use lib.Seq.{sets-eq, take-length, take-at, drop-at, drop-drop, length-take-le}
 use Rattle.period.proofs.RowsWritten.{flat-length, flat-on}
 use Rattle.tables.specs.Bytes.{numberBytes, byteValues, bytesOf, eightBytes}
 
--- there are so many bytes
+-- there are as many bytes as are asked for
 pub length-bytes : (count number : ℕ) → length (bytesOf count number) ≡ count
 unfolding bytesOf
 length-bytes zero number = refl

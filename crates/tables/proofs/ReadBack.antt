@@ -25,7 +25,7 @@ pub value-of-eight : (number : ℕ) → number < 2 ^ entryBits → valueOf (eigh
 value-of-eight number small = value-of-bytes numberBytes number small
 
 -- ---- a table
--- it has so many numbers
+-- it has as many numbers as are asked for
 pub first-length : (count : ℕ) (table : List ℕ) → length (firstNumbers count table) ≡ count
 unfolding firstNumbers
 first-length zero table = refl
@@ -49,7 +49,7 @@ numbers-in-front (number ∷ numbers) behind left (suc count) fit is =
     )
     (ap (λ (l : List ℕ). number ∷ l) (numbers-in-front numbers behind left count (λ i. fit (suc i)) (omega (arith, is))))
 
--- the numbers behind the first so many
+-- the numbers behind the first n
 numbers-behind :
     (n left count : ℕ) (table : List ℕ) → n + left ≡ count →
     firstNumbers left (drop (numberBytes * n) table) ≡ drop n (firstNumbers count table)

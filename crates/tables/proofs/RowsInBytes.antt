@@ -10,7 +10,7 @@ use Rattle.period.proofs.RowsWritten.{Writing, writing-start, writing-on, writi
 use Rattle.tables.specs.Bytes.{numberBytes, eightBytes, bytesOverwritten}
 use Rattle.tables.proofs.NumbersInBytes.{length-all, bytes-of-both}
 
--- of so many rows, each of so many numbers, the bytes of k are written
+-- of `count` rows, each of `numbers` numbers, the bytes of k are written
 abbrev pub RowsInBytes : (numbers : ℕ) (row : ℕ → List ℕ) (count : ℕ) (entry table : List ℕ) (k : ℕ) → Type 0
 RowsInBytes numbers row = Writing (numberBytes * numbers) (λ (k : ℕ). flatMap eightBytes (firstRows row k))
 

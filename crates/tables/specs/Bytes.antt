@@ -1,35 +1,35 @@
--- The tables of a C caller, which are bytes: eight to a number, the lowest in front, and only whole numbers count (01, "Numbers of refusal").
+-- The tables of a C caller, which are bytes: eight to a number, the lowest in front, and only whole numbers count.
 use Prim.Native.Nat.{ℕ, zero, suc, _+_, _*_, _/_, _%_}
 use mathlib.Core.Path.{_≡_}
 use mathlib.Core.List.{List, [], _∷_, _++_, flatMap}
 use lib.ListN.{length, take, drop}
 
--- The bytes of a number, and the values that a byte has.
+-- The bytes of a number, and the values that a byte has (rule 10.5).
 abbrev pub numberBytes : ℕ
 numberBytes = 8
 
 abbrev pub byteValues : ℕ
 byteValues = 256
 
--- how many whole numbers a table has
+-- How many whole numbers a table has (rule 10.5).
 abbrev pub wholeNumbers : List ℕ → ℕ
 wholeNumbers table = length table / numberBytes
 
--- so many bytes of a number, from its lowest on
+-- The first `count` bytes of a number, from its lowest on (rule 10.5).
 unfoldable pub bytesOf : (count number : ℕ) → List ℕ
 bytesOf zero number = []
 bytesOf (suc count) number = number % byteValues ∷ bytesOf count (number / byteValues)
 
--- the bytes of one number
+-- The eight bytes of one number (rule 10.5).
 abbrev pub eightBytes : ℕ → List ℕ
 eightBytes = bytesOf numberBytes
 
--- Read back: the number that some bytes are of, least significant first.
+-- Read back: the number that some bytes are of, the least significant first (rule 10.5).
 unfoldable pub valueOf : List ℕ → ℕ
 valueOf [] = 0
 valueOf (byte ∷ bytes) = byte + byteValues * valueOf bytes
 
--- the numbers that a table's bytes hold: so many from its start on, and all that are whole
+-- The first `count` numbers that a table's bytes hold, and below all that are whole (rule 10.5).
 unfoldable pub firstNumbers : ℕ → List ℕ → List ℕ
 firstNumbers zero table = []
 firstNumbers (suc count) table = valueOf (take numberBytes table) ∷ firstNumbers count (drop numberBytes table)
@@ -37,10 +37,10 @@ firstNumbers (suc count) table = valueOf (take numberBytes table) ∷ firstNumbe
 abbrev pub tableNumbers : List ℕ → List ℕ
 tableNumbers table = firstNumbers (wholeNumbers table) table
 
--- Numbers are written from the start of a table; what stands behind them stays, spare bytes too.
+-- Numbers are written from the start of a table; what stands behind them stays, spare bytes too (rule 10.5).
 abbrev pub bytesOverwritten : (numbers table : List ℕ) → List ℕ
 bytesOverwritten numbers table = flatMap eightBytes numbers ++ drop (numberBytes * length numbers) table
 
--- The promise of the call that tells the room in a table of so many bytes.
+-- The promise of `room`: how many whole numbers a table of `bytes` bytes has room for (rule 10.5).
 abbrev pub RoomPromise : (bytes r : ℕ) → Type 0
 RoomPromise bytes r = r ≡ bytes / numberBytes

@@ -11,11 +11,11 @@ use Rattle.settling.specs.declared.account.SegmentAccounts.{SegmentAccounts}
 use Rattle.period.specs.Written.{firstRows, plantRowAt, segmentRowAt}
 use Rattle.tables.specs.Bytes.{numberBytes, bytesOverwritten}
 
--- How many rows of so many numbers are written: those that are asked for, as far as there are accounts and room.
+-- How many rows of `numbers` numbers are written: those that are asked for, as far as there are accounts and room (rule 10.5).
 abbrev pub rowsThere : (asked most numbers : ℕ) → List ℕ → ℕ
 rowsThere asked most numbers table = min asked (min most (length table / (numberBytes * numbers)))
 
--- The rows of plants stand at the start of the table afterwards, and those of segments.
+-- The promises of `write_plants` and `write_segments`: the rows are at the start of the table afterwards (rules 7.1, 7.2 and 10.5).
 abbrev pub WritePlantsPromise : (accounts : PlantAccounts) (count : ℕ) (table table' : List ℕ) → Type 0
 WritePlantsPromise accounts count table table' =
     table' ≡ bytesOverwritten (firstRows (plantRowAt accounts) (rowsThere count mostPlants plantNumbers table)) table

@@ -1,5 +1,4 @@
-// Numbers in a table of bytes: eight bytes to a number, the lowest in front. Bytes too few for one more
-// number do not count.
+// Numbers in a table of bytes: eight bytes to a number, the lowest in front; spare bytes do not count (rule 10.5).
 ghost use mathlib.Core.Path.{_≡_};
 ghost use mathlib.Core.List.{_++_, flatMap};
 ghost use Prim.Native.Nat.{_+_, _*_, _≤_};
@@ -11,14 +10,14 @@ pub(crate) const NUMBER_BYTES: usize = 8;
 
 const BYTE_VALUES: u64 = 256;
 
-// How many whole numbers a table of so many bytes has room for.
+// How many whole numbers a table of `bytes` bytes has room for (rule 10.5).
 pub fn room(bytes: usize) -> usize
     ensures { λ r. ⌜ RoomPromise bytes r ⌝ }
 {
     bytes / NUMBER_BYTES
 }
 
-// Writes the numbers of a row, from a byte of the table on.
+// Writes the numbers of a row, from a byte of the table on (rule 10.5).
 pub(crate) fn write_row(table: &mut [u8], at: usize, row: &[u64])
     requires { ⌜ at + numberBytes * length (now row) ≤ length (now table) ⌝ }
     ensures { λ _. ⌜ now (table .exit) ≡ take at (now (table .entry)) ++ flatMap eightBytes (now (row .entry)) ++ drop (at + numberBytes * length (now (row .entry))) (now (table .entry)) ⌝ }
@@ -30,7 +29,7 @@ pub(crate) fn write_row(table: &mut [u8], at: usize, row: &[u64])
     }
 }
 
-// Writes the eight bytes of one number, the least significant first. Written out, they become one store.
+// Writes the eight bytes of one number, the least significant first; written out like this they become one store (rule 10.5).
 fn write_number(table: &mut [u8], at: usize, number: u64)
     requires { ⌜ at + numberBytes ≤ length (now table) ⌝ }
     ensures { λ _. ⌜ now (table .exit) ≡ take at (now (table .entry)) ++ eightBytes number ++ drop (at + numberBytes) (now (table .entry)) ⌝ }

@@ -1,8 +1,5 @@
-// The tables that the historian lends, which are bytes: the rows of plants and of segments are written
-// into them (01, "Who calls it").
-//
-// The layers below make a row of numbers. Here each number becomes eight bytes, at its place in a table.
-// What a table holds afterwards is said by the definitions in specs/.
+// The tables that the historian lends, which are bytes: the rows of plants and segments are written into them (rules 7.1, 7.2 and 10.5).
+// `period` makes the numbers of a row; here each becomes eight bytes, at its place in a table.
 pub mod bytes;
 pub mod rows;
 

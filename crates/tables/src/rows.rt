@@ -1,4 +1,4 @@
-// The rows of plants and of segments, from the start of a table on; later entries and spare bytes stay.
+// The rows of plants and of segments, from the start of a table on; later entries and spare bytes stay (rules 7.1, 7.2 and 10.5).
 ghost use mathlib.Core.Path.{_≡_};
 ghost use Prim.Native.Nat.{min};
 ghost use Rattle.tables.specs.Rows.{WritePlantsPromise, WriteSegmentsPromise};
@@ -13,12 +13,12 @@ use records::Segment;
 use settling::PlantAccounts;
 use settling::SegmentAccounts;
 
-// The bytes of a row.
+// The bytes of a row, of a plant and of a segment.
 const PLANT_ROW_BYTES: usize = NUMBER_BYTES * PLANT_NUMBERS;
 
 const SEGMENT_ROW_BYTES: usize = NUMBER_BYTES * SEGMENT_NUMBERS;
 
-// Writes the rows of so many plants, as far as there are accounts for them and room in the table.
+// Writes the rows of `count` plants, as far as there are accounts for them and room in the table (rules 7.1 and 10.5).
 pub fn write_plants(table: &mut [u8], accounts: PlantAccounts, count: usize)
     ensures { λ _. ⌜ WritePlantsPromise accounts count (now (table .entry)) (now (table .exit)) ⌝ }
 {
@@ -36,7 +36,7 @@ pub fn write_plants(table: &mut [u8], accounts: PlantAccounts, count: usize)
     }
 }
 
-// Writes the rows of so many segments, likewise.
+// The same for segments (rules 7.2 and 10.5).
 pub fn write_segments(table: &mut [u8], accounts: SegmentAccounts, count: usize)
     ensures { λ _. ⌜ WriteSegmentsPromise accounts count (now (table .entry)) (now (table .exit)) ⌝ }
 {

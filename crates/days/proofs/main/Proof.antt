@@ -1,4 +1,4 @@
--- `days::main` is safe and ends: the bytes that were read stand at the start of the room. Assumes nothing.
+-- `days::main` is safe and ends: the bytes that were read are at the start of the room. Assumes nothing.
 use native.Mathlib.Omega.{arith}
 use borrow.Author.Needs.{needs}
 use Rattle.input.proofs.BytesRead.{bytes-within}

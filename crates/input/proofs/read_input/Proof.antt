@@ -1,4 +1,4 @@
--- `input::read_input` meets its contract and ends: each turn leaves less room, and the bytes that came stand within it. Assumes nothing.
+-- `input::read_input` meets its contract and ends: each turn leaves less room, and the bytes that came are within it. Assumes nothing.
 use Prim.Native.Nat.{_≤_, _-_}
 use mathlib.Core.Path.{_≡_}
 use native.Mathlib.Omega.{arith}

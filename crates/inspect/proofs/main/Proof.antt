@@ -1,4 +1,4 @@
--- `inspect::main` is safe and ends: the bytes that are walked, all that were read or all but the last, stand at the start of the room. Assumes
+-- `inspect::main` is safe and ends: the bytes that are walked, all that were read or all except the last, are at the start of the room. Assumes
 -- nothing.
 use Prim.Native.Nat.{_≤_}
 use mathlib.Core.Path.{sym}

@@ -1,4 +1,4 @@
--- `days::room::room` meets its contract: the parts of the longest sheet come to the length that the definitions compute. Assumes nothing.
+-- `days::room::room` meets its contract: the parts of the longest sheet add up to the length that the definitions compute. Assumes nothing.
 use mathlib.Core.Path.{refl}
 use Rattle.days.proofs.room.room.Statement.{statement}
 use Rattle.days.proofs.room.room.Tie as tie

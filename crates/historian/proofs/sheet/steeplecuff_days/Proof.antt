@@ -1,4 +1,4 @@
--- `historian::sheet::steeplecuff_days` meets its contract: the figures are written where the sheet is accepted, and left where it is refused. Assumes
+-- `historian::sheet::steeplecuff_days` meets its contract: the figures are written if the sheet is accepted, and left if it is refused. Assumes
 -- nothing.
 use denote.Ref.{now}
 use borrow.Author.Needs.{needs}

@@ -1,5 +1,5 @@
 -- `Inspector::new` meets its contract: the file passed and the byte 0 are put together in the result's local, and that is the reader at the start of the file.
--- A `&[u8]` can be copied, so what the file owns is had for the reader and once more for the exit. The byte owns nothing but that 0 is a `usize`.
+-- A `&[u8]` can be copied, so what the file owns is had for the reader and once more for the exit. All that the byte owns is that 0 is a `usize`.
 -- Assumes nothing.
 use Prim.Native.Nat.{ℕ}
 use mathlib.Core.Path.{refl}

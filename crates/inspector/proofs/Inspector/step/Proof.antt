@@ -45,7 +45,7 @@ use denote.Triple.Clauses.{ensured, lasts}
 use denote.Triple.Entry.{Vals, onEntry}
 use denote.Triple.Spec.{Meets, tripleOf}
 use denote.Triple.Table.{entered, cited}
-use denote.Triple.Walked.{Stays, stay-ref, walkOf, goes-ref, Walks, ends-at, walked, walk-meets}
+use denote.Triple.Walked.{Stays, stay-ref, says, walkOf, goes-ref, Walks, ends-at, walked, walk-meets}
 use Rattle.number.specs.declared.Number.{Number}
 use Rattle.number.specs.Reading.{readAt}
 use Rattle.number.specs.Finding.{finds}
@@ -56,7 +56,7 @@ use Rattle.number.proofs.read_at.Symbol as read-def
 use Rattle.number.proofs.read_at.Symbol.{name as #number·read-at}
 use Rattle.number.proofs.read_at.Met as read-thm
 use Rattle.inspector.specs.declared.Inspector.{Inspector}
-use Rattle.inspector.proofs.ByHand.{second, Reader, answer-makes, answer-fits, says-both}
+use Rattle.inspector.proofs.ByHand.{second, Reader, answer-makes, answer-fits}
 use Rattle.inspector.proofs.Inspector as T
 use Rattle.inspector.proofs.Inspector.Laws as T′
 use Rattle.inspector.proofs.after.after as after
@@ -163,7 +163,7 @@ module _ {M : Type 1} (𝓤 : URA M) (H : Heap 𝓤) (A : Atoms 𝓤) (W : Given
   went : (found : Number) (byte : ℕ) → ent 𝓤 (ensured 𝓤 H A after.ended (after.clauses 𝓤 H A at-mem run) tt (found, (reader .at, tt)) tt byte) (fact 𝓤 (Ends found byte))
   went found byte = exE 𝓤 _ (λ ws. snd∗ 𝓤 (sem 𝓤 H A (lasts after.ended tt (found, (reader .at, tt)) ws)) (fact 𝓤 (Ends found byte)))
 
-  -- the reader at another byte owns what it owned: the file is the same, and a byte owns nothing but that it is a `usize`
+  -- the reader at another byte owns what it owned: the file is the same, and all that a byte owns is that it is a `usize`
   again : (byte : ℕ) → byte < 2 ^ 64 → ent 𝓤 (sem 𝓤 H A Own) (sem 𝓤 H A (R .own (moved byte) (T′.lowered (moved byte) ∷ [])))
   again byte fits = qed W (‵ Own ∷ []) ∵ owned ! usize (Is usize) (uint-makes 𝓤 H A W w64) byte _ (refl, fits) $ move ! (1 ∷ 0 ∷ []) $ by ! (own-put 𝓤 H A W D L 1 fields byte mach)
 
@@ -173,7 +173,7 @@ module _ {M : Type 1} (𝓤 : URA M) (H : Heap 𝓤) (A : Atoms 𝓤) (W : Given
   exits found u byte e e′ =
       qed W (‵ (fobs γ (R .coded .code (moved byte))) ∷ ‵ (fbor κ (Body (mem R) b o γ)) ∷ ‵ (flft κ q) ∷ ‵ (N.the-row .own found (u ∷ [])) ∷ (‵ (flft κ′ q′) ⊛ ‵ ftrue) ∷ []) ∵
       suffices ! _ (ends-at 𝓤 H A step.ended stayed (step.clauses 𝓤 H A at-mem run) W (((κ, (κ′, tt)), (q, (q′, tt)), bounds, x, vals), tt) u found (moved byte, tt) (tt, tt)) $
-      says-both ! e (ap moved (e′ ∙ ap (endOf (reader .at)) e)) $
+      says ! (record { found = e; moved = ap moved (e′ ∙ ap (endOf (reader .at)) e) }) $
       move ! (2 ∷ 4 ∷ []) $ join ! $ frame ! $ feqI ! (List Val) (vptr b o ∷ []) (vptr b o ∷ []) refl $ fjoin3 ! $ nothing ! $ move ! (1 ∷ 0 ∷ []) $ fjoin ! $ frame ! $ done !
 
   module _ (C : Calls 𝓤 H) (Λ : Loops 𝓤 H) (fm : FmC 𝓤 H (W .laws) C) (known-read : Triple 𝓤 (C #number·read-at) (ReadAt 𝓤 H A at-mem run)) (known-after : Triple 𝓤 (C #inspector·after) (After 𝓤 H A at-mem run)) where

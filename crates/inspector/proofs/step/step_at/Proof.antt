@@ -47,8 +47,8 @@ use Rattle.number.specs.Finding.{finds}
 use Rattle.number.proofs.Number as N
 use Rattle.inspector.specs.declared.Inspector.{Inspector}
 use Rattle.inspector.specs.declared.step.Step.{Step}
-use Rattle.inspector.specs.Reader.{stepped, steppedBy, stepAt}
-use Rattle.inspector.proofs.ByHand.{second, Reader, answer-fits, heard-both}
+use Rattle.inspector.specs.Reader.{steppedBy, stepAt, StepPromise}
+use Rattle.inspector.proofs.ByHand.{second, Reader, answer-fits}
 use Rattle.inspector.proofs.Lent.{to, Stands, Tokens, Lent, lends, comes-back}
 use Rattle.inspector.proofs.Inspector as T
 use Rattle.inspector.proofs.Inspector.Laws as T′
@@ -172,8 +172,8 @@ module _ {M : Type 1} (𝓤 : URA M) (H : Heap 𝓤) (A : Atoms 𝓤) (W : Given
         use1 W (later (some (λ (found : Number). (‵ (Tokens κ q l₃ ν) ⊛ ‵ (N.the-row .own found (u ∷ []))) ⊛ raw (ensured 𝓤 H A step.ended (step.clauses 𝓤 H A mem run)
         (ν ∷ κ, (κ, tt)) (to l₃ γ reader, tt) tt found)))) (id⊢ 𝓤 _) $ await ! tt $ pick ! (λ found.
         split ! $ move ! (1 ∷ []) $
-        use1 W (some (λ (ws : Inspector × Unit {0}). ‵ (lasts step.ended (ν ∷ κ, (κ, tt)) (to l₃ γ reader, tt) ws) ⊛ raw (sep 𝓤 (fact 𝓤 (finds found ≡ readAt (now file) start)) (fact 𝓤 (ws .0 ≡ stepped reader))))) (id⊢ 𝓤 _) $ pick ! (λ ws.
-        split ! $ move ! (1 ∷ []) $ heard-both ! (finds found ≡ readAt (now file) start) (ws .0 ≡ stepped reader) (λ e e′. fsplit ! $ move ! (1 ∷ []) $ drop ! $ move ! (1 ∷ []) $ split ! $ move ! (1 ∷ []) $
+        use1 W (some (λ (ws : Inspector × Unit {0}). ‵ (lasts step.ended (ν ∷ κ, (κ, tt)) (to l₃ γ reader, tt) ws) ⊛ raw (fact 𝓤 (StepPromise reader found (ws .0))))) (id⊢ 𝓤 _) $ pick ! (λ ws.
+        split ! $ move ! (1 ∷ []) $ heard ! (StepPromise reader found (ws .0)) (λ e. fsplit ! $ move ! (1 ∷ []) $ drop ! $ move ! (1 ∷ []) $ split ! $ move ! (1 ∷ []) $
         facts ! N.the-row (Is N.the-row) (shows 𝓤 H A N.the-row) found (u ∷ []) (λ is.
         -- [the loan's tokens; its last value; what is kept; what the file owns; room for _7; …; room for _6; …; _5; …; room for _4; …; … of _3; _2; …; _1; …; room for _0; …]
         land ! (from ! (stop !)) (init ! 10 refl (answer-fits 𝓤 H A W found u is)) $
@@ -194,7 +194,7 @@ module _ {M : Type 1} (𝓤 : URA M) (H : Heap 𝓤) (A : Atoms 𝓤) (W : Given
         returns ! (look ! 16 refl) $ forget ! 1 refl $ forget ! 3 refl $ forget ! 5 refl $ forget ! 7 refl $ forget ! 9 refl $ forget ! 12 refl $ forget ! 14 refl $ forget ! 16 refl $
         move ! (16 ∷ 17 ∷ []) $ free1 ! $ move ! (14 ∷ 15 ∷ []) $ free1 ! $ move ! (12 ∷ 13 ∷ []) $ free1 ! $ move ! (1 ∷ 11 ∷ []) $ free1 ! $ move ! (8 ∷ 9 ∷ []) $ free1 ! $ move ! (6 ∷ 7 ∷ []) $
         free1 ! $ move ! (4 ∷ 5 ∷ []) $ free1 ! $ move ! (2 ∷ 3 ∷ []) $ free1 ! $ free0 ! $
-        by ! (exits found u byte (is-result found u byte is (is′ .1)) fits (λ i. record { found = e i; at = (e″ ∙ ap (λ (z : Inspector). z .at) e′) i }))))))))))))))))))))))
+        by ! (exits found u byte (is-result found u byte is (is′ .1)) fits (λ i. record { found = e .found i; at = (e″ ∙ ap (λ (z : Inspector). z .at) (e .moved)) i }))))))))))))))))))))))
 
 module _ {M : Type 1} (𝓤 : URA M) (H : Heap 𝓤) (A : Atoms 𝓤) (W : Given 𝓤 H A) (mem : Memory → SProp 𝓤) (run : Routine → Fun 𝓤) where
   step-at-walks : (C : Calls 𝓤 H) (Λ : Loops 𝓤 H) → FmC 𝓤 H (W .laws) C → Triple 𝓤 (C #inspector·step) (Steps 𝓤 H A mem run) → Triple 𝓤 (C #inspector·at) (At 𝓤 H A mem run)

@@ -14,7 +14,7 @@ use Rattle.number.proofs.Forming.{all-groups, zero-last, single, other-
 use Rattle.number.proofs.groups.form.Statement.{statement}
 use Rattle.number.proofs.groups.form.Tie as tie
 
--- where control comes past the test of the shortest form, the groups have it
+-- past the test of the shortest form the groups have it
 shortest : (c : tie.Joined1) → padded (take (c .before .args .count) (now (c .before .args .groups))) ≡ false
 shortest c =
     let a = c .before .args in

@@ -63,17 +63,17 @@ write-segments-requires c κs =
           (a .answer-with-tables .result) (a .answer-with-tables .ensures) (told .enum-told .given .1) .1,
     )
 
-cast-t12 : tie.Need-cast-t12
-cast-t12 c = search needs
+cast-plant-numbers : tie.Need-cast-plant-numbers
+cast-plant-numbers c = search needs
 
-mul-t13 : tie.Need-mul-t13
-mul-t13 c = search needs
+mul-plant-numbers : tie.Need-mul-plant-numbers
+mul-plant-numbers c = search needs
 
-cast-t19 : tie.Need-cast-t19
-cast-t19 c = search needs
+cast-segment-numbers : tie.Need-cast-segment-numbers
+cast-segment-numbers c = search needs
 
-mul-t20 : tie.Need-mul-t20
-mul-t20 c = search needs
+mul-segment-numbers : tie.Need-mul-segment-numbers
+mul-segment-numbers c = search needs
 
 same-length : tie.Need-same-length
 same-length c = search needs
@@ -104,10 +104,10 @@ quantify-spec =
     write-plants-requires
     cast-write-segments
     write-segments-requires
-    cast-t12
-    mul-t13
-    cast-t19
-    mul-t20
+    cast-plant-numbers
+    mul-plant-numbers
+    cast-segment-numbers
+    mul-segment-numbers
     same-length
     same-length-2
     returns-2)

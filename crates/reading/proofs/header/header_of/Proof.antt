@@ -1,4 +1,4 @@
--- `reading::header::header_of` meets its contract: it tells what the reading of the header came to. Assumes nothing.
+-- `reading::header::header_of` meets its contract: it tells what the reading of the header gave. Assumes nothing.
 use mathlib.Core.Path.{sym, ap, _∙_}
 use native.Mathlib.Omega.{arith}
 use denote.Ref.{now}

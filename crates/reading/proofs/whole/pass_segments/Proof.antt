@@ -1,4 +1,4 @@
--- `reading::whole::pass_segments` meets its contract: its loop passes one segment after another, each by its own number and keeps none. Assumes nothing.
+-- `reading::whole::pass_segments` meets its contract: its loop passes segment after segment, each by its own number, and keeps none. Assumes nothing.
 use Prim.Native.Nat.{_-_}
 use mathlib.Core.Path.{sym}
 use mathlib.Core.List.{List, [], _∷_, _++_}

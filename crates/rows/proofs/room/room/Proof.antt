@@ -1,4 +1,4 @@
--- `rows::room::room` meets its contract: the parts of the longest text come to the length that the definitions compute. Assumes nothing.
+-- `rows::room::room` meets its contract: the parts of the longest text add up to the length that the definitions compute. Assumes nothing.
 use mathlib.Core.Path.{refl}
 use native.Mathlib.Omega.{arith}
 use Rattle.rows.proofs.room.room.Statement.{statement}

@@ -1,10 +1,10 @@
--- `settling::emissions::first_over` meets its contract: the line that was first, or this one where its total passes the limit. Assumes nothing.
+-- `settling::emissions::first_over` meets its contract: the line that was first, or this one if its total passes the limit. Assumes nothing.
 use mathlib.Core.Path.{refl}
 use mathlib.Core.Bool.{and-false}
 use native.Mathlib.Omega.{arith}
 use lib.Dec.{eqb}
 use borrow.Author.Tests.{lt-ltb, le-ltb, eq-eqb, ne-eqb}
-use Rattle.accounts.specs.Emissions.{mostGrams}
+use Rattle.records.specs.Lines.{mostGrams}
 use Rattle.settling.proofs.emissions.first_over.Statement.{statement}
 use Rattle.settling.proofs.emissions.first_over.Tie as tie
 

@@ -1,4 +1,4 @@
--- `records::segment::Segment::next_allowed` meets its contract, arm by arm: the law of the kind, and then the test of the next segment. Assumes nothing.
+-- `records::segment::Segment::next_allowed` meets its contract, arm by arm: the law of the kind, then the test of the next segment. Assumes nothing.
 use Prim.Native.Nat.{suc}
 use mathlib.Core.Path.{sym, _∙_}
 use native.Mathlib.Omega.{arith}

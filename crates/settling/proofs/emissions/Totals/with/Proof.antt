@@ -8,7 +8,7 @@ use Rattle.settling.proofs.Totals.{line-grams}
 use Rattle.settling.proofs.emissions.Totals.with.Statement.{statement}
 use Rattle.settling.proofs.emissions.Totals.with.Tie as tie
 
--- the totals of so many grams
+-- the totals with these grams
 abbrev of : ℕ → Totals
 of grams = record { grams = grams }
 
