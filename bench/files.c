@@ -18,7 +18,7 @@ enum { EDITION = 1, WHOLE_FRACTION = 1000000, LOST_ONE_IN = 1000, STORE = 6, KIN
 enum { PLANT_CLASSES = 8, FIRST_SEGMENT_CLASS = 3, SEGMENT_CLASSES = 5, OWNER_KINDS = 2, PLANT_OWNER = 0, SEGMENT_OWNER = 1 };
 #define FACTOR_OVER_LIMIT UINT32_C(1000000001)
 
-/* Of the days of a sheet, one in so many repeats the day before, and one in so many others is zero. */
+/* Of the days of a sheet, one in three repeats the day before, and one in five of the others is zero. */
 enum { REPEATED_ONE_IN = 3, ZERO_ONE_IN = 5 };
 #define LARGEST_READING UINT32_C(4000000000)
 
@@ -111,7 +111,7 @@ static void draft_refused(struct draft *draft)
     draft->numbers[draft->count - 1] = FACTOR_OVER_LIMIT;
 }
 
-/* The next number of the sequence that takes so many bytes. */
+/* The next number of the sequence that takes `bytes` bytes. */
 static uint32_t draw_of_bytes(struct draft *draft, uint32_t bytes)
 {
     uint32_t least = bytes == 1 ? 0 : UINT32_C(1) << (GROUP_BITS * (bytes - 1));
@@ -119,7 +119,7 @@ static uint32_t draw_of_bytes(struct draft *draft, uint32_t bytes)
     return least + draw(draft, most - least);
 }
 
-/* Drafts a full year of readings of at most so many bytes; each length is as likely. */
+/* Drafts a full year of readings of at most `most_bytes` bytes; each length is equally likely. */
 static void draft_year(struct draft *draft, uint32_t most_bytes)
 {
     uint32_t reading = 0;

@@ -1,4 +1,4 @@
-/* The period files and the meters' sheets that the benchmark puts to both programs. */
+/* The period files and the meters' sheets on which the benchmark makes the calls. */
 #ifndef FILES_H
 #define FILES_H
 
@@ -25,12 +25,12 @@ struct file {
     uint8_t bytes[FULL_NUMBERS * MOST_NUMBER_BYTES]; /* a sheet has fewer numbers than a full-size period */
     size_t len;
     size_t numbers;
-    uint32_t refusal; /* the answer that it gets */
+    uint32_t refusal; /* the expected answer */
 };
 
-/* Makes the file of that name: `whole`, 01's whole period; `full`, a full-size one that is accepted; `refused`, the
-   same refused at its very last number. Or the sheet of a full year: `small-year`, with readings of one byte;
-   `mixed-year`, of one to five; `refused-year`, the same refused at its last reading. False where there is none. */
+/* Makes the file of that name: `whole`, the worked period (rule 13.11); `full`, a full-size one that is accepted;
+   `refused`, the same refused at its very last number. Or the sheet of a full year: `small-year`, with readings of one
+   byte; `mixed-year`, of one to five; `refused-year`, the same refused at its last reading. False if there is none. */
 bool make_file(struct file *file, const char *name);
 
 #endif

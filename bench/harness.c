@@ -1,10 +1,10 @@
-/* harness: what the benchmark measures. FILE is a name of files.h, a period file or a sheet, which tells the call;
-   FUNCTION is steeplecuff, plain, or empty, which does nothing.
-     harness size FILE                   prints the file's bytes and numbers
-     harness same FILE                   ends with 1 where steeplecuff and plain do not answer alike
-     harness calls FUNCTION FILE TIMES   calls the function so many times
+/* harness: what the benchmark measures. FILE is a name of files.h, a period file or a sheet; which call is made follows
+   from it. FUNCTION is steeplecuff, plain, or empty, which does nothing.
+     harness size FILE                   prints how many bytes and numbers the file has
+     harness same FILE                   exits with 1 if the answers of steeplecuff and plain differ
+     harness calls FUNCTION FILE TIMES   calls the function TIMES times
      harness stack FUNCTION FILE         prints the bytes of stack of one call
-   Ends with 2 where it is asked for something else. */
+   Exits with 2 if it is asked for anything else. */
 #include <stdio.h>
 #include <stdlib.h>
 #include <string.h>
@@ -19,7 +19,7 @@ enum { DIFFERENT = 1, CANNOT_GO_ON = 2, DECIMAL = 10 };
 typedef uint32_t quantify(const uint8_t *, size_t, uint8_t *, size_t, uint8_t *, size_t, uint64_t *);
 typedef uint32_t days(const uint8_t *, size_t, uint64_t *, uint64_t *, uint64_t *, uint64_t *, uint64_t *, uint64_t *);
 
-/* What is named FUNCTION: one for each kind of file. */
+/* What FUNCTION names: a function for each kind of file. */
 struct functions {
     const char *name;
     quantify *quantify;
@@ -48,14 +48,14 @@ struct call {
 
 static struct call call;
 
-/* Says what to write instead of a word; answers the status to end with. */
+/* Says what to write in place of a word; answers the status to exit with. */
 static int complain(const char *message, const char *word)
 {
     fprintf(stderr, "harness: write %s, not %s\n", message, word);
     return CANNOT_GO_ON;
 }
 
-/* These two stand for what any call costs. */
+/* These two show what any call costs. */
 static uint32_t empty_quantify(const uint8_t *file, size_t file_len, uint8_t *plants, size_t plants_len,
                                uint8_t *segments, size_t segments_len, uint64_t *place)
 {
@@ -115,7 +115,7 @@ static void (*maker(void))(void *)
     return call.file.kind == SHEET ? make_days : make_quantify;
 }
 
-/* The answer of a function, zero where the call writes nothing. */
+/* The answer of a function; what the call does not write is zero. */
 static struct answer answer_of(const char *function)
 {
     choose_function(function);
@@ -150,7 +150,7 @@ static void make_calls(void (*make)(void *), long times)
         make(&call);
 }
 
-/* Names both makers, so that the compiler takes each into its loop and little is counted besides the call. */
+/* Names both makers, so that the compiler puts each into its loop and little is counted besides the call. */
 static int repeat(const char *function, const char *file, long times)
 {
     choose_function(function);

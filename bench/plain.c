@@ -35,7 +35,7 @@ struct period {
     struct line line[MOST_LINES];
 };
 
-/* What the period comes to; plants and segments from 0. */
+/* The results of the period; plants and segments are counted from 0. */
 struct accounts {
     uint64_t plant_grams[MOST_PLANTS], segment_grams[MOST_SEGMENTS];
     uint64_t inflow[MOST_SEGMENTS];
@@ -43,7 +43,7 @@ struct accounts {
     uint64_t stored[MOST_PLANTS], charged[MOST_PLANTS];
 };
 
-/* The amount of each plant entering each segment; set where the plant's route passes, and read only there. */
+/* The amount of each plant that enters each segment; only set, and only read, if the plant's route passes there. */
 typedef uint64_t amounts_table[MOST_PLANTS][MOST_SEGMENTS];
 
 static uint32_t read_header(struct reader *reader, struct period *period)
@@ -203,7 +203,7 @@ static void credit(const struct period *period, struct accounts *accounts, amoun
         accounts->passing[segment->next - 1] |= accounts->passing[s];
 }
 
-/* Charges the emission of segment `s` to each plant on its own, rounded up; there is an inflow where there is an emission. */
+/* Charges the emission of segment `s` to each plant by itself, rounded up; with an emission there is an inflow. */
 static void charge(const struct period *period, struct accounts *accounts, amounts_table amounts, uint32_t s, uint64_t emission)
 {
     uint64_t inflow = accounts->inflow[s];

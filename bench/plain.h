@@ -1,11 +1,11 @@
-/* The calls of the header in plain C, each with the signature of its own: what the benchmark compares with. */
+/* The calls of steeplecuff.h in plain C, with the same parameters: what the benchmark compares with. */
 #ifndef PLAIN_H
 #define PLAIN_H
 
 #include <stddef.h>
 #include <stdint.h>
 
-/* The rules of 01: steeplecuff_quantify. */
+/* The accounts of a period: steeplecuff_quantify. */
 uint32_t plain_quantify(const uint8_t *file, size_t file_len, uint8_t *plants, size_t plants_len, uint8_t *segments,
                         size_t segments_len, uint64_t *place);
 

@@ -1,4 +1,4 @@
-/* Reads seven-bit numbers in plain C. The functions stand here, so that they are compiled with what calls them. */
+/* Reads seven-bit numbers in plain C. The functions are in the header, so that they are compiled with what calls them. */
 #ifndef PLAIN_READER_H
 #define PLAIN_READER_H
 
@@ -34,7 +34,7 @@ static uint32_t read_number(struct reader *reader, uint64_t *number)
     return STEEPLECUFF_REFUSED_NUMBER_OVER_LIMIT;
 }
 
-/* Reads a field of `least` to `most`; answers 0, the number's own refusal, or `refusal` where it is outside. */
+/* Reads a field of `least` to `most`; answers 0, the refusal of the number, or `refusal` if it is out of range. */
 static uint32_t read_field(struct reader *reader, uint32_t least, uint32_t most, uint32_t refusal, uint32_t *field)
 {
     uint64_t number;

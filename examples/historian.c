@@ -1,7 +1,7 @@
 /*
  * historian FILE: a small plant historian. It reads a period file, has the library work it out, and prints a row for each
- * plant and for each segment, or says why the file is refused. Ends with 0, 1 where the file is refused, 2 where it could
- * not be read or the rows could not be written. README.md in this folder says how to build and run it.
+ * plant and for each segment, or says why the file is refused. Exits with 0, with 1 if the file is refused, with 2 if it
+ * could not be read or the rows could not be written. README.md in this folder says how to build and run it.
  */
 #include <inttypes.h>
 #include <stdbool.h>
@@ -12,7 +12,7 @@
 
 enum { REFUSED = 1, NOT_DONE = 2 };
 
-/* Room for one byte more than any period file has: that byte tells that a file is too long, and no byte after it can
+/* Room for one byte more than any period file has: that byte shows that a file is too long, and no byte after it can
    change the answer. */
 struct file {
     uint8_t bytes[STEEPLECUFF_MOST_FILE_BYTES + 1];
@@ -65,7 +65,7 @@ static const char *const reasons[] = {
     [STEEPLECUFF_REFUSED_INFLOW_OVER_LIMIT] = "a segment's inflow is too large",
     [STEEPLECUFF_REFUSED_OUTFLOW_OVER_INFLOW] = "a segment's outflow is larger than its inflow",
     [STEEPLECUFF_REFUSED_EMISSION_WITHOUT_INFLOW] = "a segment has emissions and no inflow",
-    /* not here, where both tables have room for every file, but a historian with tables of its own length meets these two */
+    /* cannot happen here, since both tables have room for every file; a historian with shorter tables can get these two */
     [STEEPLECUFF_REFUSED_PLANT_TABLE_SHORT] = "the plant table is too short",
     [STEEPLECUFF_REFUSED_SEGMENT_TABLE_SHORT] = "the segment table is too short",
 };

@@ -1,18 +1,18 @@
 /*
- * Steeplecuff: the removal units of the capture plants of one certification period, and what a meter's daily readings
- * come to.
+ * Steeplecuff: the removal units of the capture plants of one certification period, and five figures of a meter's daily
+ * readings.
  *
  * There are two calls. steeplecuff_quantify takes a period file and fills two tables: a row for each plant and a row
  * for each segment. steeplecuff_days takes a meter's sheet, the readings of up to a year, and gives five figures, among
- * them on how many days the meter repeated itself. Or a call refuses what it is given, and says why and where.
- * docs/GUIDE.md explains the file, the sheet, the rows, the figures and the refusals; this page says how a C or C++
- * program asks for them, in this order:
+ * them on how many days the meter repeated itself. Each call can also refuse what it is given; it then says why and
+ * where. docs/GUIDE.md explains the file, the sheet, the rows, the figures and the refusals, and docs/RULES.md has the
+ * rules by number. This page says how a C or C++ program makes the calls, in this order:
  *
  *   the version . the row of a plant . the row of a segment . limits . counts . answers . quantify . days . an example
  *
  * Link with the archive target/staticlib/libhistorian.a, for x86-64, which `rt staticlib historian` proves and builds. Of
- * the C library it needs memcpy and memset. examples/historian.c is a whole program; examples/README.md builds it by
- * hand, with make, with CMake and with pkg-config.
+ * the C library it needs memcpy and memset. examples/historian.c is a whole program; examples/README.md shows how to
+ * build it by hand, with make, with CMake and with pkg-config.
  */
 #ifndef STEEPLECUFF_H
 #define STEEPLECUFF_H
@@ -20,7 +20,7 @@
 #include <stddef.h>
 #include <stdint.h>
 
-/* The version of this header and of the archive that it goes with. The first part changes where callers have to change
+/* The version of this header and of the archive that it goes with. Its first part changes if callers have to change
    their code. */
 #define STEEPLECUFF_VERSION "1.1.0"
 
@@ -28,20 +28,20 @@
 extern "C" {
 #endif
 
-/* The row of a plant: its numbers in order. All are kg, but for the units. */
+/* The row of a plant: its numbers in order (rule 7.1). All are in kg except the units. */
 enum steeplecuff_plant_number {
     STEEPLECUFF_PLANT_EXPORTED,   /* what the plant sent off */
     STEEPLECUFF_PLANT_STORED,     /* what the store credited to it */
     STEEPLECUFF_PLANT_LOST,       /* exported - stored */
     STEEPLECUFF_PLANT_GROSS,      /* stored x origin fraction, rounded down */
     STEEPLECUFF_PLANT_ASSOCIATED, /* its own emissions and all its charges */
-    STEEPLECUFF_PLANT_NET,        /* gross - associated, or 0 where associated is larger */
+    STEEPLECUFF_PLANT_NET,        /* gross - associated; 0 if that is negative */
     STEEPLECUFF_PLANT_UNITS,      /* whole tonnes of net: the removal units */
-    STEEPLECUFF_PLANT_DEFICIT,    /* associated - gross, or 0 where gross is larger */
+    STEEPLECUFF_PLANT_DEFICIT,    /* associated - gross; 0 if that is negative */
     STEEPLECUFF_PLANT_NUMBERS     /* how many numbers a plant's row has: 8 */
 };
 
-/* The row of a segment: its numbers in order. All are kg, but for the set of plants. */
+/* The row of a segment: its numbers in order (rule 7.2). All are in kg except the set of plants. */
 enum steeplecuff_segment_number {
     STEEPLECUFF_SEGMENT_INFLOW,   /* A: the sum of the amounts that enter */
     STEEPLECUFF_SEGMENT_OUTFLOW,  /* D: the metered outflow */
@@ -52,9 +52,10 @@ enum steeplecuff_segment_number {
 };
 
 /*
- * How much there can be. Tables of these sizes suffice for every file. No file that can be read is longer than
- * STEEPLECUFF_MOST_FILE_BYTES, and no sheet than STEEPLECUFF_MOST_SHEET_BYTES: a caller that reads one byte more into a
- * buffer and passes that gets the answer of the whole file or sheet, however long it is.
+ * The limits (chapter 9 of the rules). Tables of these sizes are large enough for every file. No file that can be read
+ * is longer than STEEPLECUFF_MOST_FILE_BYTES, and no sheet than STEEPLECUFF_MOST_SHEET_BYTES. So a buffer of one byte
+ * more is enough: a call on as much as fits into it gives the answer for the whole file or sheet, however long it is
+ * (rule 9.2).
  */
 enum steeplecuff_limit {
     STEEPLECUFF_MOST_PLANTS = 16,
@@ -64,23 +65,24 @@ enum steeplecuff_limit {
     STEEPLECUFF_NUMBER_BYTES = 8, /* bytes of one number in a table */
     STEEPLECUFF_MOST_PLANT_BYTES = STEEPLECUFF_MOST_PLANTS * STEEPLECUFF_PLANT_NUMBERS * STEEPLECUFF_NUMBER_BYTES,
     STEEPLECUFF_MOST_SEGMENT_BYTES = STEEPLECUFF_MOST_SEGMENTS * STEEPLECUFF_SEGMENT_NUMBERS * STEEPLECUFF_NUMBER_BYTES,
-    /* the count and the readings, each with its most bytes: 1,832 */
+    /* the count and the readings, each with the most bytes that it can have: 1,832 */
     STEEPLECUFF_MOST_SHEET_BYTES = 2 + STEEPLECUFF_MOST_DAYS * 5,
-    /* the header and the records, each with the most bytes of every field: 7,029 */
+    /* the header and the records, each field with the most bytes that it can have: 7,029 */
     STEEPLECUFF_MOST_FILE_BYTES = (1 + 1 + 1 + 2) + STEEPLECUFF_MOST_PLANTS * (5 + 1 + 3) +
                                   STEEPLECUFF_MOST_SEGMENTS * (1 + 5 + 1) + STEEPLECUFF_MOST_LINES * (1 + 1 + 1 + 5 + 5)
 };
 
-/* Where an accepted file has its counts, and so how many rows the tables have: the bytes file[1] and file[2]. Its first
-   three numbers, edition, P and S, take one byte each. */
+/* Where an accepted file has the counts P and S, which say how many rows the tables have: the bytes file[1] and
+   file[2]. Its first three numbers, edition, P and S, take one byte each. */
 enum steeplecuff_count_byte { STEEPLECUFF_PLANTS_BYTE = 1, STEEPLECUFF_SEGMENTS_BYTE = 2 };
 
 /*
- * What a call answers, and what its place then counts. "number" is the number of the file at fault, counted from 0;
- * lines and segments are counted from 1. P and S are the file's counts of plants and segments, L that of lines.
+ * What a call answers (rule 8.1); behind each colon is what its place then counts. "number" is the number of the file at
+ * fault, counted from 0; lines and segments are counted from 1. P, S and L are the file's counts of plants, segments and
+ * lines.
  *
- * A sheet can get 0, 1, 2, 3, 5 and 9, which then say of the sheet what they say of a file here. Its number 0 is the
- * count of days, which 5 is about, and its number d the reading of day d; so the place of 9 is one more than the days.
+ * A sheet can get 0, 1, 2, 3, 5 and 9, with the same meaning for the sheet as for a file (rule 12.7). Its number 0 is the
+ * count of days, which 5 refuses; its number d is the reading of day d; so the place of 9 is one more than the days.
  */
 enum steeplecuff_answer {
     STEEPLECUFF_ACCEPTED = 0,                         /* both tables, or all figures, are written; the place is 0 */
@@ -102,8 +104,8 @@ enum steeplecuff_answer {
 };
 
 /*
- * Works out one period. Answers one of steeplecuff_answer and sets *place: to 0 when the file is accepted, else to the
- * place of the fault.
+ * Works out one period (rules 10.1 to 10.6). Answers one of steeplecuff_answer and sets *place: to 0 if the file is
+ * accepted, else to the place of the fault.
  *
  * In:   file[0 .. file_len - 1], the period file. It is only read; every content and length is answered.
  * Out:  plants[0 .. plants_len - 1] and segments[0 .. segments_len - 1], the tables. A table is a run of numbers of eight
@@ -112,19 +114,19 @@ enum steeplecuff_answer {
  *       Acceptance writes 8 numbers for each plant and 5 for each segment; all behind them stays.
  *       A refusal leaves both tables as they were.
  *
- * The caller owes: no pointer is null, also where its length is 0; each is good for its length; the tables and *place
- * overlap neither each other nor the file.
+ * The caller must make sure that no pointer is null, not even if its length is 0; that each is good for its length; and
+ * that the tables and *place overlap neither each other nor the file.
  *
  * The call keeps nothing from one call to the next and has no global state: threads may call it at the same time, each
- * with tables and a place of its own, on the same file if they like. It allocates nothing, calls nothing back and ends for
- * every input. It uses some 27,000 bytes of stack, whatever the file (docs/PERFORMANCE.md).
+ * with tables and a place of its own, also on the same file. It allocates nothing, calls nothing back and returns for
+ * every input. It uses some 7,500 bytes of stack, whatever the file (docs/PERFORMANCE.md).
  */
 uint32_t steeplecuff_quantify(const uint8_t *file, size_t file_len, uint8_t *plants, size_t plants_len,
                               uint8_t *segments, size_t segments_len, uint64_t *place);
 
 /*
- * Works out one meter's sheet. Answers one of steeplecuff_answer and sets *place: to 0 when the sheet is accepted, else
- * to the place of the fault.
+ * Works out one meter's sheet (rules 12.1 to 12.9). Answers one of steeplecuff_answer and sets *place: to 0 if the sheet
+ * is accepted, else to the place of the fault.
  *
  * In:   sheet[0 .. sheet_len - 1], the sheet: numbers written as in a period file, first the count of days, 1 to
  *       STEEPLECUFF_MOST_DAYS, then for each day its reading in kg, and nothing behind the last. It is only read; every
@@ -134,16 +136,17 @@ uint32_t steeplecuff_quantify(const uint8_t *file, size_t file_len, uint8_t *pla
  *       *sum            the readings added up, in kg
  *       *repeated       how many days have the reading of the day before, and it is above 0
  *       *repeated_zero  how many days have the reading of the day before, and it is 0
- *       *longest        how many days the longest run has; 0 where every reading is 0
- *       *first          the day, counted from 1, on which that run begins, the earliest of several as long; 0 likewise
+ *       *longest        how many days the longest run has; 0 if every reading is 0
+ *       *first          the day, counted from 1, on which that run begins, the earliest of several as long; 0 if every
+ *                       reading is 0
  *       A refusal leaves the five as they were.
  *
- * The caller owes: no pointer is null, also that of an empty sheet; the sheet is good for its length; the figures and
- * *place overlap neither each other nor the sheet.
+ * The caller must make sure that no pointer is null, not even that of an empty sheet; that the sheet is good for its
+ * length; and that the figures and *place overlap neither each other nor the sheet.
  *
- * As the first call, this one keeps nothing from one call to the next and has no global state: threads may make either
- * at the same time, each with figures and a place of its own, on the same sheet if they like. It allocates nothing,
- * calls nothing back and ends for every input. It uses some 200 bytes of stack, whatever the sheet (docs/PERFORMANCE.md).
+ * Like the first call, this one keeps nothing from one call to the next and has no global state: threads may make both
+ * calls at the same time, each with figures and a place of its own, also on the same sheet. It allocates nothing, calls
+ * nothing back and returns for every input. It uses some 200 bytes of stack, whatever the sheet (docs/PERFORMANCE.md).
  */
 uint32_t steeplecuff_days(const uint8_t *sheet, size_t sheet_len, uint64_t *sum, uint64_t *repeated,
                           uint64_t *repeated_zero, uint64_t *longest, uint64_t *first, uint64_t *place);

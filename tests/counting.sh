@@ -1,12 +1,12 @@
 # shellcheck shell=bash
 # tests/counting.sh: counts checks. The scripts of tests/ and the gate source it; it gives them
 #   passed, failed          how many checks went well, and how many did not
-#   count STATUS NAME       counts one check by a known status, names it, and ends with that status
+#   count STATUS NAME       counts one check by a known status, names it, and returns that status
 #   fail NAME               counts one check that failed
-#   check NAME COMMAND..    counts one check by a command, which gets no input; where it fails, shows what the command said
+#   check NAME COMMAND..    counts one check by a command, which gets no input; if it fails, shows what the command said
 #   add PASSED FAILED       counts what another program has counted
-#   indent                  copies what is said of the check that was named last, so that it stands under the name
-#   finish                  prints the last line, 'N passed, M failed', and ends the script, with 1 where something failed
+#   indent                  copies standard input, set in under the name of the last check
+#   finish                  prints the last line, 'N passed, M failed', and exits, with 1 if something failed
 
 passed=0
 failed=0

@@ -7,13 +7,13 @@ use crate::frames::{first_array, first_file, write_file, FrameFault};
 #[derive(Clone, Copy)]
 #[repr(u8)]
 pub enum Kind {
-    /// What number stands at the asked byte?
+    /// Which number is at the asked byte?
     Number = b'N',
     /// How is this period file read?
     Period = b'P',
 }
 
-/// What stands for the asked byte where the kind asks about the file as a whole.
+/// The asked byte if the kind asks about the file as a whole.
 pub const NO_OFFSET: u64 = 0;
 
 /// A file and the byte of it that is asked about.

@@ -22,7 +22,7 @@ pub fn with_byte(file: &[u8], place: usize, byte: u8) -> Vec<u8> {
     changed
 }
 
-/// The file with each byte changed to each value that is wanted for it.
+/// The file with each byte changed to each of the values that are chosen for it.
 pub fn each_byte_changed(whole: &[u8], values_for: impl Fn(u8) -> Vec<u8>) -> Vec<Vec<u8>> {
     let mut files = Vec::new();
     for (place, &byte) in whole.iter().enumerate() {
@@ -87,7 +87,7 @@ enum Hit {
 
 const HITS: [Hit; 3] = [Hit::Changed, Hit::Removed, Hit::Inserted];
 
-/// The file with so many of its bytes hit; it must have at least as many.
+/// The file with `hits` of its bytes hit; it must have at least as many.
 pub fn with_hits(mut file: Vec<u8>, hits: usize, seeded: &mut Seeded) -> Vec<u8> {
     for _ in 0..hits {
         let place = seeded.up_to(file.len() - 1);
@@ -126,7 +126,7 @@ pub fn noise(starts: &[Vec<u8>], seed: u64) -> Vec<Vec<u8>> {
     files
 }
 
-/// So many bytes, each drawn by itself.
+/// `length` bytes, each drawn by itself.
 fn noise_of(length: usize, draw: fn(&mut Seeded) -> u8, seeded: &mut Seeded) -> Vec<u8> {
     iter::repeat_with(|| draw(seeded)).take(length).collect()
 }

@@ -17,7 +17,7 @@ pub enum FrameFault {
 /// A frame that cannot be read.
 #[derive(Debug, PartialEq, Eq)]
 pub struct UnreadFrame {
-    /// Frames that stand whole before it.
+    /// How many whole frames are before it.
     whole_frames: usize,
     fault: FrameFault,
 }
@@ -77,13 +77,13 @@ pub fn write_length(length: usize, frames: &mut Vec<u8>) {
     frames.extend(length.to_le_bytes());
 }
 
-/// The file that stands first in the input and what follows it.
+/// The file at the start of the input, and what follows it.
 pub fn first_file(input: &[u8]) -> Result<(&[u8], &[u8]), FrameFault> {
     let (length, rest) = first_length(input)?;
     first_bytes(rest, length)
 }
 
-/// The length that stands first in the input and what follows it.
+/// The length at the start of the input, and what follows it.
 pub fn first_length(input: &[u8]) -> Result<(usize, &[u8]), FrameFault> {
     let (length, rest) = first_array(input)?;
     // No input has as many bytes as a length that does not fit here.
@@ -98,7 +98,7 @@ pub fn first_array<const N: usize>(input: &[u8]) -> Result<([u8; N], &[u8]), Fra
     Ok((bytes, rest))
 }
 
-/// So many bytes of a frame and what follows them.
+/// The first `length` bytes of a frame, and what follows them.
 pub fn first_bytes(input: &[u8], length: usize) -> Result<(&[u8], &[u8]), FrameFault> {
     split(input, length).ok_or(FrameFault::CutShort)
 }
@@ -148,7 +148,7 @@ mod tests {
         [vec![0x01, 0x80], vec![]].map(DaysCall).to_vec()
     }
 
-    /// Asserts that the frames of two questions read back, and that every cut is said.
+    /// Asserts that the frames of two questions read back, and that every cut is reported.
     fn assert_read_back<Q: Question + Clone + Debug + PartialEq>(cases: &[Q]) {
         let frames = write_frames(cases);
         let first = write_frames(&cases[..1]).len();

@@ -42,11 +42,11 @@ use std::fmt::Display;
 use std::io::{self, Read, Write};
 use std::process::ExitCode;
 
-/// Exit code when something differs.
+/// Exit code if something differs.
 const DIFFERS: u8 = 1;
-/// Exit code when the file is refused.
+/// Exit code if the file is refused.
 const REFUSED: u8 = 1;
-/// Exit code when the work could not be done.
+/// Exit code if the work could not be done.
 const NOT_DONE: u8 = 2;
 
 const USAGE: &str = "\
@@ -78,7 +78,7 @@ usage: reference answer numbers|readings|historian|historian-days
        reference cases sheets SEED COUNT
            the same for sheets, some worked out by hand first";
 
-/// What the caller wants done.
+/// What the caller asks for.
 enum Task {
     AnswerNumbers,
     AnswerReadings,
@@ -178,7 +178,7 @@ fn task_to_compare(what: &str, program: Program) -> Option<Task> {
     }
 }
 
-/// The task to write so many cases of what is named, if there are such.
+/// The task to write `count` cases of what is named, if there are such cases.
 fn task_to_write_cases(what: &str, seed: u64, count: usize) -> Option<Task> {
     match what {
         "periods" => Some(Task::CasesOfPeriods { seed, count }),
@@ -226,7 +226,7 @@ fn days() -> Result<ExitCode, String> {
     Ok(exit_code(&answered))
 }
 
-/// How the program ends after it has written what a file is answered with.
+/// What the program exits with after it has written the answer to a file.
 fn exit_code<T>(answered: &Result<T, Refused>) -> ExitCode {
     match answered {
         Ok(_) => ExitCode::SUCCESS,
@@ -234,9 +234,9 @@ fn exit_code<T>(answered: &Result<T, Refused>) -> ExitCode {
     }
 }
 
-/// Writes the inspector's page of the period file on standard input. A file that is cut is
-/// refused too, being longer than any period, but it was not walked to its end: that the work
-/// could not be done comes first.
+/// Writes the inspector's page of the period file on standard input. A file that is cut is refused
+/// too, since it is longer than any period. But it was not walked to its end, so the exit code says
+/// that the work could not be done.
 fn inspection() -> Result<ExitCode, String> {
     let page = inspect(&input()?);
     output(page.to_string().as_bytes())?;
@@ -247,7 +247,7 @@ fn inspection() -> Result<ExitCode, String> {
     }
 }
 
-/// Writes so many of the cases with their answers.
+/// Writes `count` of the cases with their answers.
 fn cases<C: Display>(cases: impl Iterator<Item = C>, count: usize) -> Result<ExitCode, String> {
     let lines: String = cases.take(count).map(|case| format!("{case}\n")).collect();
     output(lines.as_bytes())?;

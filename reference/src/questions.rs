@@ -24,7 +24,7 @@ pub trait Question: Sized {
     fn in_words(&self) -> String;
 }
 
-/// The right answer to a question, which what came from a program is compared with.
+/// The right answer to a question, with which a program's answer is compared.
 pub trait Answer {
     /// What the answer is counted as.
     fn label(&self) -> String;
@@ -70,7 +70,7 @@ pub trait FileToPrint {
 pub struct Suite<C> {
     pub name: &'static str,
     pub cases: Vec<C>,
-    /// How often each answer that can be must be expected at least, else the suite fails.
+    /// The suite fails if a possible answer is expected less often than this.
     pub each_answer_at_least: usize,
 }
 
@@ -100,7 +100,7 @@ pub fn hex(bytes: &[u8], between: &str) -> String {
     digits.join(between)
 }
 
-/// What stands for the digits of an empty file.
+/// Written in place of the digits of an empty file.
 const EMPTY_FILE: &str = "-";
 
 /// The bytes of a file as one word of hex digits, also if there are none.
@@ -111,7 +111,7 @@ pub fn file_digits(file: &[u8]) -> String {
     }
 }
 
-/// The bytes of a file in words, at most so many of them from its start.
+/// The bytes of a file in words, at most `shown_bytes` of them from its start.
 pub fn file_in_words(file: &[u8], shown_bytes: usize) -> String {
     let length = file.len();
     let shown = hex(&file[..length.min(shown_bytes)], " ");
@@ -134,7 +134,7 @@ pub mod suites_checked {
     use super::*;
     use crate::compare::tally::Tally;
 
-    /// Each suite meets the answers of its row, so often at least.
+    /// Asserts that each suite meets the answers of its row, at least as often as the row says.
     pub fn assert_each_meets<Q: Question>(suites: &[Suite<Q>], met: &[(&[&str], usize)]) {
         assert_eq!(suites.len(), met.len());
         for (Suite { name, cases, .. }, (labels, at_least)) in suites.iter().zip(met) {
@@ -145,7 +145,7 @@ pub mod suites_checked {
         }
     }
 
-    /// Suites that are made twice ask the same cases.
+    /// Asserts that suites that are made twice ask the same cases.
     pub fn assert_same_cases<C: PartialEq>(once: &[Suite<C>], again: &[Suite<C>]) {
         assert_eq!(once.len(), again.len());
         for (once, again) in once.iter().zip(again) {

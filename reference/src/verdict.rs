@@ -5,7 +5,7 @@ use crate::frames::split;
 use crate::refusal::Refused;
 use std::fmt;
 
-/// What stands for the refusal and for the place of an accepted file.
+/// The refusal and the place that are answered for an accepted file.
 const ACCEPTED: u32 = 0;
 const NO_PLACE: u64 = 0;
 
@@ -31,7 +31,7 @@ impl Verdict {
         }
     }
 
-    /// The verdict that stands first in the bytes, and what follows it; nothing if it is cut short.
+    /// The verdict at the start of the bytes, and what follows it; nothing if it is cut short.
     pub fn first_in(bytes: &[u8]) -> Option<(Self, &[u8])> {
         let (refusal, rest) = split(bytes, ACCEPTED.to_le_bytes().len())?;
         let (place, rest) = split(rest, NO_PLACE.to_le_bytes().len())?;
@@ -62,7 +62,7 @@ impl Verdict {
         (self != came).then(|| format!("expected {self}, came {came}"))
     }
 
-    /// What came of an answer with this verdict, in words, where not all of its bytes came.
+    /// What came of an answer with this verdict, in words, if not all of its bytes came.
     pub fn cut_short(self, came: usize, expected: usize) -> String {
         match came {
             0 => format!("expected {self}, came no answer"),

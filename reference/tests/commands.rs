@@ -176,7 +176,7 @@ fn program_agrees_with_itself() {
     }
 }
 
-/// Asserts that so many suites passed and none failed.
+/// Asserts that this number of suites passed and none failed.
 fn assert_passed(output: &Output, suites: usize) {
     let last = text(&output.stdout).lines().last();
     assert_eq!(last, Some(&format!("{suites} passed, 0 failed")[..]));

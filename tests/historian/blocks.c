@@ -28,7 +28,7 @@ enum block_kind block_kind_asked(int argc, char **argv)
     exit(CANNOT_GO_ON);
 }
 
-/* Sees to it that a guarded block has room for its front and `len` bytes, and a guard page behind. */
+/* Gives a guarded block room for its front and `len` bytes, and a guard page behind them. */
 static void make_room(struct block *block, size_t len)
 {
     size_t page = (size_t)sysconf(_SC_PAGESIZE);

@@ -1,4 +1,4 @@
-/* Blocks of memory of exactly the asked length, so that a byte touched outside of one is seen. */
+/* Blocks of memory of exactly the length that is asked for, so that a byte touched outside of one is seen. */
 #ifndef BLOCKS_H
 #define BLOCKS_H
 
@@ -8,18 +8,18 @@
 
 enum block_kind {
     BLOCK_ON_HEAP, /* each from malloc: AddressSanitizer and valgrind watch its edges */
-    BLOCK_GUARDED  /* ends where a page begins that ends the program when it is touched; the bytes before are checked */
+    BLOCK_GUARDED  /* a page behind it kills the program if it is touched; the bytes before it are checked */
 };
 
 struct block {
     enum block_kind kind;
-    uint8_t *bytes; /* never null, also where len is 0 */
+    uint8_t *bytes; /* never null, not even if len is 0 */
     size_t len;
     uint8_t *room; /* guarded: readable and writable pages with the guard page behind, kept for the next block */
     size_t room_len;
 };
 
-/* The kind that a program's first argument names: none, or `guarded`. Ends the program with 2 for another word. */
+/* The kind that a program's first argument names: none, or `guarded`. Exits with 2 if it is another word. */
 enum block_kind block_kind_asked(int argc, char **argv);
 
 /* Gives the block `len` bytes of any content. `block` starts as { .kind = .. }, or was given back. */

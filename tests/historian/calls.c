@@ -1,6 +1,6 @@
-/* calls [guarded]: calls steeplecuff_quantify as the historian does and checks every byte of what comes back: the whole
-   period of 01, its proved cases, tables of many lengths, and the longest file. Prints a line for each call, begun before
-   it is made, so that the last line tells where the program died; then 'N passed, M failed'. */
+/* calls [guarded]: calls steeplecuff_quantify as the historian does and checks every byte of what comes back: for the
+   worked period and its changes (rule 13.11), tables of many lengths, and the longest file. Prints a line for each call,
+   begun before it is made, so that the last line shows where the program died; then 'N passed, M failed'. */
 #include <stdio.h>
 #include <string.h>
 
@@ -10,7 +10,7 @@
 #include "period_file.h"
 #include "steeplecuff.h"
 
-enum { PLANTS = 2, SEGMENTS = 2 }; /* of the whole period, from which all accepted files here are made */
+enum { PLANTS = 2, SEGMENTS = 2 }; /* of the worked period, from which all accepted files here are made */
 enum { PLANT_ENTRIES = PLANTS * STEEPLECUFF_PLANT_NUMBERS, SEGMENT_ENTRIES = SEGMENTS * STEEPLECUFF_SEGMENT_NUMBERS };
 enum { PLANT_BYTES = PLANT_ENTRIES * STEEPLECUFF_NUMBER_BYTES, SEGMENT_BYTES = SEGMENT_ENTRIES * STEEPLECUFF_NUMBER_BYTES };
 enum { NUMBER = STEEPLECUFF_NUMBER_BYTES, BYTE_BITS = 8 };
@@ -24,7 +24,7 @@ struct rows {
 struct expected {
     uint32_t refusal;
     uint64_t place;
-    const struct rows *rows; /* NULL where the file is refused */
+    const struct rows *rows; /* NULL if the file is refused */
 };
 
 struct bytes {
@@ -38,14 +38,14 @@ struct lengths {
 
 static const struct lengths exact = {PLANT_BYTES, SEGMENT_BYTES};
 
-/* The rows that 01 prints. */
+/* The rows of rule 13.11. */
 static const struct rows whole_rows = {
     {10000, 9931, 69, 9931, 879, 9052, 9, 0,
      5001, 4968, 33, 4471, 90, 4381, 4, 0},
     {15001, 14900, 101, 268, 3,
      14900, 14899, 1, 0, 3}};
 
-/* 01 gives plant 1's units and deficit; associated is 4000000000 of its own and a charge of 179. */
+/* Plant 1 has associated 4000000000 kg by its own line and a charge of 179 kg. */
 static const struct rows most_grams_rows = {
     {10000, 9931, 69, 9931, 4000000179, 0, 0, 3999990248,
      5001, 4968, 33, 4471, 90, 4381, 4, 0},
@@ -75,7 +75,7 @@ static bool table_is(const char *name, const struct block *table, const uint64_t
     return true;
 }
 
-/* Whether both tables hold the rows, or where there are none have stayed as they were. */
+/* Whether both tables hold the rows, or are as they were if there are none. */
 static bool tables_are(const struct rows *rows)
 {
     if (rows == NULL)
@@ -95,7 +95,7 @@ static void check(const char *name, struct bytes file, struct lengths lengths, s
     one_call_end(&call);
 }
 
-/* 01's proved cases that are given as bytes. */
+/* The proved cases that are given as bytes. */
 static void check_bytes(void)
 {
     static const struct {
@@ -115,7 +115,7 @@ static void check_bytes(void)
         check(cases[i].name, (struct bytes){cases[i].bytes, cases[i].len}, exact, cases[i].expected);
 }
 
-/* 01's proved cases that change figures of the whole period. */
+/* The proved cases that change figures of the worked period (rule 13.11). */
 static void check_edits(void)
 {
     static const struct {
@@ -146,7 +146,7 @@ static void check_edits(void)
     }
 }
 
-/* The whole period with tables of many lengths, 01's table of 15 numbers among them; and one byte more behind it. */
+/* The worked period with tables of many lengths, and with one byte more behind it. */
 static void check_lengths(void)
 {
     static const struct {
@@ -179,8 +179,8 @@ static void check_lengths(void)
     check("one byte more, both tables empty", (struct bytes){file, len + EXTRA_BYTES}, (struct lengths){0, 0}, bytes_after);
 }
 
-/* The longest file, every count and every field at its largest: its length is the header's limit. It is read to its end and
-   refused for the grams of its first line; with a byte more or less it is refused for that. */
+/* The longest file, with every count and every field at its largest: its length is the limit in steeplecuff.h. It is read
+   to its end and refused for the grams of its first line; with a byte more or less it is refused for that byte. */
 static void check_longest(void)
 {
     enum { PLANT = 3, SEGMENT = 3, LINE = 5, HEADER = 4 }; /* numbers of a record */

@@ -6,22 +6,22 @@
 #include <stddef.h>
 #include <stdint.h>
 
-/* Prints the name at once, so that the last line tells where a program died. */
+/* Prints the name at once, so that the last line shows where a program died. */
 void check_begin(const char *name);
 
-/* Whether a call left alone what it must: `changed` is NULL then, else what changed in words, which is printed. */
+/* Whether a call left alone what it must: `changed` is NULL then, else it says in words what changed, which is printed. */
 bool all_stayed(const char *changed);
 
-/* Whether the refusal and its place are those that are due; where they are not, prints both. */
+/* Whether the refusal and its place are the expected ones; if they are not, prints both. */
 bool answer_is(uint32_t refusal, uint64_t place, uint32_t refusal_due, uint64_t place_due);
 
-/* Ends the check and counts it. Where all is not right, what is wrong was printed before, after 'FAILED, '. */
+/* Ends the check and counts it. If it is not right, what is wrong was printed before, after 'FAILED, '. */
 void check_end(bool right);
 
-/* One check: that the longest of its kind has the length that the header gives. */
+/* One check: that the longest file or sheet has the length that steeplecuff.h gives. */
 void check_length(const char *name, size_t len, size_t len_of_header);
 
-/* Prints 'N passed, M failed'; answers the status to end with, 1 where a check failed. */
+/* Prints 'N passed, M failed'; answers the status to exit with, 1 if a check failed. */
 int checks_done(void);
 
 #endif

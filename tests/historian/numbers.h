@@ -8,7 +8,7 @@
 enum {
     GROUP_BITS = 7,        /* bits of a number in one byte */
     MOST_NUMBER_BYTES = 5, /* groups of one number */
-    MORE_FOLLOW = 0x80     /* the bit of a byte that tells that its number goes on */
+    MORE_FOLLOW = 0x80     /* the bit of a byte that says that its number goes on */
 };
 
 /* Writes the numbers to `bytes`, which has room for MOST_NUMBER_BYTES each; answers how many bytes they took. */

@@ -1,4 +1,4 @@
-/* One call of steeplecuff_quantify on blocks of exactly the asked lengths. */
+/* One call of steeplecuff_quantify on blocks of exactly the lengths that are asked for. */
 #ifndef ONE_CALL_H
 #define ONE_CALL_H
 

@@ -1,4 +1,4 @@
-/* The whole period of 01. */
+/* The worked period. */
 #ifndef PERIOD_FILE_H
 #define PERIOD_FILE_H
 
@@ -6,10 +6,10 @@
 
 enum { WHOLE_PERIOD_NUMBERS = 26 };
 
-/* The numbers of 01's "One whole period". */
+/* The numbers of rule 13.11. */
 extern const uint32_t whole_period[WHOLE_PERIOD_NUMBERS];
 
-/* Where in whole_period the figures stand that other cases change. */
+/* Where in whole_period the figures are that other cases change. */
 enum {
     FIRST_EXPORTED = 4,
     SECOND_EXPORTED = 7,

@@ -1,9 +1,9 @@
 /* replay [guarded]: puts many cases to steeplecuff_quantify in one run, for a comparison with another program.
    A case on standard input: the lengths of file, plant table and segment table in bytes, four bytes each, least
    significant first; then the file. An answer on standard output: refusal (four bytes), place (eight bytes), then the
-   plant table and the segment table, as they are after the call. Each answer is sent at once, so that their count tells
-   in which case the program died. Ends with 1 where a call changed what it must leave alone, with 2 where it was not
-   given whole cases. */
+   plant table and the segment table, as they are after the call. Each answer is sent at once, so that their count shows
+   in which case the program died. Exits with 1 if a call changed what it must leave alone, with 2 if it was not given
+   whole cases. */
 #include <stdio.h>
 
 #include "cases.h"

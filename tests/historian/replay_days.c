@@ -1,7 +1,7 @@
 /* replay_days [guarded]: puts many sheets to steeplecuff_days in one run, for a comparison with another program.
    A case on standard input: the length of the sheet in four bytes, least significant first; then the sheet. An answer
    on standard output: refusal (four bytes), place (eight bytes), then the five figures (eight bytes each), as they are
-   after the call; figure_before tells what they are before it. All else is as with replay. */
+   after the call; figure_before says what they are before it. All else is as with replay. */
 #include "cases.h"
 #include "one_sheet.h"
 

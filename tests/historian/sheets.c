@@ -15,7 +15,7 @@ enum { YEAR = STEEPLECUFF_MOST_DAYS, MOST_WORKED_DAYS = 13, MOST_FAULT_BYTES = 6
 struct expected {
     uint32_t refusal;
     uint64_t place;
-    const uint64_t *figures; /* NULL where the sheet is refused: they have stayed as they were */
+    const uint64_t *figures; /* NULL if the sheet is refused: then they are as they were */
 };
 
 /* A sheet that is being made. */
@@ -129,7 +129,7 @@ static void check_years(void)
     check_accepted("a year of zeros before its last day", zeros, YEAR, (uint64_t[]){1, 0, 364, 1, 366});
 }
 
-/* Each fault that a number itself can have, at the count and at every reading of three; the other numbers are sound. */
+/* Each fault that a number can have by itself, at the count and at each of three readings; the other numbers are sound. */
 static void check_numbers(void)
 {
     enum { NUMBERS = 4 };
@@ -164,7 +164,7 @@ static void check_numbers(void)
         }
 }
 
-/* Counts outside their range, bytes after the last reading, and which of two faults is told. */
+/* Counts outside their range, bytes after the last reading, and which of two faults is answered. */
 static void check_bytes(void)
 {
     static const struct {
@@ -211,8 +211,8 @@ static void check_cuts(void)
     check_accepted("all of the bytes", readings, DAYS, (uint64_t[]){4270549247, 0, 0, 1, 2});
 }
 
-/* The longest sheet: its length is the header's limit. It is accepted; with bytes less or more it is refused, with many
-   more bytes as with one. */
+/* The longest sheet: its length is the limit in steeplecuff.h. It is accepted. With a byte less it is refused, and with
+   one byte more or many. */
 static void check_longest(void)
 {
     uint32_t readings[YEAR];

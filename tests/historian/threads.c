@@ -1,6 +1,6 @@
 /* threads: makes both calls from several threads at the same time, on one file and one sheet, each thread with tables,
-   figures and places of its own and with a small stack, and checks that they leave what calls alone leave. Ends with 0
-   where they do. */
+   figures and places of its own and with a small stack. Checks that they leave what a call by itself leaves. Exits with
+   0 if they do, else with 1. */
 #define _POSIX_C_SOURCE 200809L /* for the barrier */
 #include <pthread.h>
 #include <stdbool.h>
@@ -52,7 +52,7 @@ static bool same_tables(const struct left *left, const struct left *right)
            memcmp(left->segments, right->segments, sizeof left->segments) == 0;
 }
 
-/* One thread's calls, begun when all threads are there: answers NULL where all of them leave what calls alone left. */
+/* One thread's calls, begun when all threads are there: answers NULL if each of them leaves what a call by itself left. */
 static void *call_often(void *of_thread)
 {
     struct left *left = of_thread;

@@ -1,5 +1,5 @@
-/* A `read` that brings, and a `write` that takes, from one to seven bytes at a time: put before the C library's, they try the two loops
-   between what is proved and standard input and output. */
+/* A `read` and a `write` that move one to seven bytes at a time. Put before those of the C library, they try the two loops between what is
+   proved and standard input and output. */
 #include <stddef.h>
 #include <sys/syscall.h>
 #include <unistd.h>
@@ -8,7 +8,7 @@ enum { MOST_MOVED = 7 };
 
 long syscall(long number, ...);
 
-/* How many of so many bytes are moved this time. */
+/* How many of `count` bytes are moved this time. */
 static size_t some_of(size_t count)
 {
     static size_t calls;

@@ -7,8 +7,8 @@ use crate::questions::{Answer, Question};
 use std::io;
 use std::process::Stdio;
 
-/// Puts all cases to the program in one run and compares its answers. A program that ends in
-/// failure fails, whatever it answered.
+/// Puts all cases to the program in one run and compares its answers. If the program does not exit
+/// with 0, that is a fault, whatever it answered.
 pub fn compare_in_one_run<Q: Question>(cases: &[Q], program: &Program) -> io::Result<Comparison> {
     let output = program.run(&write_frames(cases), Stdio::inherit())?;
     let mut comparison = compare_output(cases, &output.stdout);

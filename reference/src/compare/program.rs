@@ -24,8 +24,8 @@ impl Program {
             .spawn()?;
         let mut stdin = child.stdin.take().expect("standard input is piped");
         thread::scope(|scope| {
-            // A program that stops reading makes the writing fail. It may do so where the rest
-            // does not matter, and missing answers tell of it where the rest does.
+            // A program that stops reading makes the writing fail. It may do so if the rest does
+            // not matter; if the rest matters, missing answers show it.
             scope.spawn(move || stdin.write_all(input));
             child.wait_with_output()
         })

@@ -27,8 +27,8 @@ pub fn compare_starts<F: FileToPrint>(files: &[F], program: &Program) -> io::Res
     Ok(comparison)
 }
 
-/// What is wrong with the output, if anything. How the program ends is its own affair, as long as
-/// it ends by itself.
+/// What is wrong with the output, if anything. The program may exit with any status, as long as it
+/// exits by itself.
 fn difference(expected: &str, output: &Output) -> Option<String> {
     if output.status.code().is_none() {
         return Some(format!("the program was ended, {}", output.status));

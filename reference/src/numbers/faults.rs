@@ -29,8 +29,8 @@ fn forms_at_fault(value: u64) -> Vec<Vec<u8>> {
     forms
 }
 
-/// Files of these numbers that end before the one at the place or inside it, or in which it stands
-/// in each form that must be refused.
+/// Files of these numbers that end before the one at the place or inside it, or in which it has
+/// each form that must be refused.
 pub fn every_fault_at(numbers: &[u64], place: usize) -> Vec<Vec<u8>> {
     let before = write_numbers(&numbers[..place]);
     let mut files = vec![before.clone()];

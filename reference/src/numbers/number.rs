@@ -1,17 +1,17 @@
-//! Numbers as they stand in a file: groups of seven bits, lowest first, one in a byte.
+//! Numbers as they are in a file: groups of seven bits, lowest first, one in a byte.
 
 /// Bits of the value that one group holds.
 pub const GROUP_BITS: usize = 7;
 /// The bits of a byte that are its group.
 const GROUP_MASK: u8 = 0x7F;
-/// The bit of a byte that is set when another group follows.
+/// The bit of a byte that is set if another group follows.
 pub const MORE_FOLLOW: u8 = 0x80;
 /// The most groups a number may have.
 pub const MOST_GROUPS: usize = 5;
 /// The largest value a number may have.
 pub const LIMIT: u64 = 4_000_000_000;
 
-/// What stands at an offset of a file.
+/// What is at an offset of a file.
 #[derive(Clone, Copy, Debug, PartialEq, Eq)]
 pub enum Reading {
     /// A number, and the offset just past its last byte.
@@ -69,7 +69,7 @@ pub fn read_number(file: &[u8], offset: u64) -> Reading {
     Reading::Refused(Refusal::FileEnds)
 }
 
-/// The bytes of the file from `offset` on: none when the offset is at the end or past it.
+/// The bytes of the file from `offset` on: none if the offset is at the end or past it.
 fn bytes_from(file: &[u8], offset: u64) -> &[u8] {
     usize::try_from(offset)
         .ok()

@@ -6,7 +6,7 @@ use crate::asked_file::{AskedFile, Kind};
 use crate::frames::FrameFault;
 use crate::questions::{hex, Question};
 
-/// One question: what stands at this offset of this file?
+/// One question: what is at this offset of this file?
 #[derive(Clone, Debug, PartialEq, Eq)]
 pub struct NumberAt {
     pub file: Vec<u8>,

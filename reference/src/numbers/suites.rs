@@ -59,10 +59,10 @@ fn one_and_two_bytes() -> Vec<NumberAt> {
 
 /// Lengths of the patterns; the longest has a byte after the fifth group, which must not matter.
 const PATTERN_LENGTHS: RangeInclusive<usize> = 3..=MOST_GROUPS + 1;
-/// The byte that stands after the fifth group in the longest patterns.
+/// The byte after the fifth group in the longest patterns.
 const BYTE_AFTER_FIFTH: u8 = 0xFF;
 
-/// Each file stands once, though many patterns lead to the same one.
+/// Each file is asked once, though many patterns give the same one.
 fn bytes_at_edges() -> Vec<NumberAt> {
     let mut files = BTreeSet::new();
     for length in PATTERN_LENGTHS {
@@ -124,7 +124,7 @@ const AROUND_AN_EDGE: u64 = 2;
 const MOST_PADDED_GROUPS: usize = 7;
 /// Bytes before a number, which must not matter.
 const BYTES_BEFORE: [&[u8]; 4] = [&[], &[0x00], &[0xFF], &[0x80, 0x80, 0x80]];
-/// Bytes after a number, which matter only where the number was cut short.
+/// Bytes after a number, which matter only if the number was cut short.
 const BYTES_AFTER: [&[u8]; 5] = [&[], &[0x00], &[0x7F], &[0x80], &[0xFF, 0xFF]];
 
 fn values_at_edges() -> Vec<NumberAt> {
@@ -191,7 +191,7 @@ const SEEDED_FILES: usize = 200;
 const SEED_OF_OFFSETS: u64 = 0x5EED_0001;
 
 /// Far offsets are asked of the repeated bytes only: no byte of the file should
-/// matter there, and these show it when one does.
+/// matter there, and these show it if one does.
 fn offsets_near_and_far() -> Vec<NumberAt> {
     let mut seeded = Seeded::new(SEED_OF_OFFSETS);
     let mut cases = Vec::new();

@@ -1,4 +1,4 @@
-//! Writing the numbers of files, also such that must be refused.
+//! Writing the numbers of files, also of files that must be refused.
 
 use super::number::write_number;
 

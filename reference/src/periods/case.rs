@@ -4,7 +4,7 @@ use super::accounts::{account, Tables};
 use crate::questions::{file_digits, spaced};
 use std::fmt;
 
-/// What stands between the numbers of the plant table and those of the segment table.
+/// Written between the numbers of the plant table and those of the segment table.
 const BETWEEN_TABLES: &str = "|";
 
 /// A file and the tables for its rows.

@@ -5,7 +5,7 @@ use super::records::{Line, Owner, Plant, Segment, ANY_NUMBER, EDITION, HEADER_NU
 use crate::refusal::Reason;
 use std::ops::RangeInclusive;
 
-/// One field: what it may be, and why the file is refused when it is not.
+/// One field: what it may be, and why the file is refused if it is something else.
 #[derive(Clone, Debug, PartialEq, Eq)]
 pub struct Field {
     pub allowed: RangeInclusive<u64>,
@@ -13,7 +13,7 @@ pub struct Field {
 }
 
 /// The field of the number after these, which are the first of a file and
-/// allowed themselves; nothing when they are the whole file.
+/// allowed themselves; nothing if they are the whole file.
 pub fn field_after(numbers: &[u64]) -> Option<Field> {
     match *numbers {
         [] => Some(field(EDITION..=EDITION, Reason::Edition)),

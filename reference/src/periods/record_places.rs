@@ -1,4 +1,4 @@
-//! Where the numbers behind the header stand: in which record, and where in it.
+//! Where the numbers behind the header are: in which record, and where in it.
 
 use super::records::{Line, Plant, Segment};
 
@@ -17,7 +17,7 @@ const IN_FILE_ORDER: [(RecordKind, usize); 3] = [
     (RecordKind::Line, Line::NUMBERS),
 ];
 
-/// Where a number stands in the records.
+/// Where a number is in the records.
 #[derive(Clone, Copy, Debug, PartialEq, Eq)]
 pub struct RecordPlace {
     pub kind: RecordKind,
@@ -28,8 +28,8 @@ pub struct RecordPlace {
 }
 
 impl RecordPlace {
-    /// Where the number stands that comes after so many behind the header; nothing if these are
-    /// all that the counts of plants, segments and lines announce.
+    /// Where the number is that comes after the first `numbers` behind the header; nothing if these
+    /// are all that the counts of plants, segments and lines announce.
     pub fn after(numbers: usize, counts: [u64; 3]) -> Option<Self> {
         let mut place = numbers;
         for ((kind, numbers_of_record), count) in IN_FILE_ORDER.into_iter().zip(counts) {

@@ -134,7 +134,7 @@ impl Owner {
     }
 }
 
-/// An emission: so much of something, at so many grams CO2e a unit.
+/// An emission: a quantity of something, and the grams CO2e of one unit of it.
 #[derive(Clone, Debug, PartialEq, Eq)]
 pub struct Line {
     pub owner: Owner,

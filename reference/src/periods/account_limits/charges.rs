@@ -43,7 +43,7 @@ impl Exports {
 }
 
 /// Emissions at multiples of the inflow and one kg beside them, emissions that are a gram above
-/// a kg, and the largest emissions where one plant bears them all.
+/// a kg, and the largest emissions with one plant that bears them all.
 pub fn beside_exact_shares() -> Vec<Period> {
     let mut periods = Vec::new();
     for exports in EXPORTS {
@@ -62,8 +62,8 @@ pub fn beside_exact_shares() -> Vec<Period> {
     periods
 }
 
-/// Multiples of the inflow, small, larger and the largest; where the inflow is so large that it
-/// has no others, multiples of the count of plants; and the emissions one kg beside each.
+/// Multiples of the inflow, small, larger and the largest; if the inflow is so large that it has
+/// no others, multiples of the count of plants; and the emissions one kg beside each.
 fn emissions_for(exports: Exports) -> Vec<u64> {
     let mut emissions = vec![0, LIMIT];
     for whole in [exports.total(), PLANTS as u64] {
@@ -86,14 +86,14 @@ fn nothing_lost(kg_of_plant: impl Fn(usize) -> u64) -> Period {
     period
 }
 
-/// The segment emits so many kg.
+/// The segment emits `kg` kg.
 fn emitted(exports: Exports, segment: usize, kg: u64) -> Period {
     let mut period = nothing_lost(|plant| exports.kg(plant));
     set_kg(&mut period, 1, Owner::Segment(segment), kg);
     period
 }
 
-/// The segment emits so many kg and, in the last line, one gram.
+/// The segment emits `kg` kg and, in the last line, one gram.
 fn one_gram_above(exports: Exports, segment: usize, kg: u64) -> Period {
     let mut period = emitted(exports, segment, kg);
     set_grams(&mut period, LINES, Owner::Segment(segment), 1);
@@ -117,7 +117,7 @@ mod tests {
     use super::super::answers::{answer, rows};
     use super::*;
 
-    /// All emissions of each plant: its charges, where it emits nothing itself.
+    /// All emissions of each plant: its charges, if it emits nothing itself.
     fn associated(period: &Period) -> Vec<u64> {
         let rows = rows(period);
         rows.plants.iter().map(|row| row.associated).collect()

@@ -1,4 +1,4 @@
-//! Emissions of segments where nothing flows in: refusal 13.
+//! Emissions of segments without inflow: refusal 13.
 
 use super::full_size::{
     each_at_its_store, full_size, next_in_row, set_grams, set_kg, share_export, through_all,
@@ -13,7 +13,7 @@ use crate::seeded::Seeded;
 const SEED_OF_EXPORTS: u64 = 0x5EED_0008;
 /// The line that gives a segment its grams.
 const LINE: usize = 300;
-/// The grams of a segment where nothing flows in: none, and the fewest that are a kg.
+/// The grams of a segment without inflow: none, and the fewest that are a kg.
 const GRAMS: [u64; 2] = [0, 1];
 
 /// Every segment without inflow, because nothing is exported, because nothing comes out of the

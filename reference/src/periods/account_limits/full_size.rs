@@ -17,14 +17,14 @@ pub const OWNERS_AT_ENDS: [Owner; 4] = [
     Owner::Segment(1),
     Owner::Segment(SEGMENTS),
 ];
-/// What stands for the next segment of a store.
+/// The next segment of a store.
 pub const NO_NEXT: usize = 0;
 /// How many kinds of segments lead on.
 const LEADING_KINDS: u64 = Segment::STORE - 1;
 /// The class fuel, which plants and segments may have.
 const FUEL: u64 = 3;
 
-/// A period in which each plant starts and each segment leads on as is said for its number.
+/// A period in which each plant starts and each segment leads on as is given for its number.
 /// Nothing is exported, and no line has grams.
 pub fn full_size(
     first_of_plant: impl Fn(usize) -> usize,
@@ -43,7 +43,7 @@ pub fn full_size(
     }
 }
 
-/// A segment that leads to the next one, by another kind to each, or a store where there is none.
+/// A segment that leads to the next one, by another kind to each, or a store if there is none.
 fn segment_to(next: usize) -> Segment {
     let kind = match next {
         NO_NEXT => Segment::STORE,
@@ -93,7 +93,7 @@ pub fn through_all_at_limit() -> Period {
     period
 }
 
-/// The segment after this one where all stand in a row.
+/// The segment after this one, if all are in a row.
 pub fn next_in_row(own: usize) -> usize {
     if own < SEGMENTS {
         own + 1
@@ -107,14 +107,14 @@ pub fn each_at_its_store() -> Period {
     full_size(|own| own, |_| NO_NEXT)
 }
 
-/// Gives every plant the export that is said for its number.
+/// Gives every plant the export that is given for its number.
 pub fn export_each(period: &mut Period, kg_of_plant: impl Fn(usize) -> u64) {
     for (plant, number) in period.plants.iter_mut().zip(1..) {
         plant.exported = kg_of_plant(number);
     }
 }
 
-/// Gives the plants of these numbers so much to export together, in seeded parts.
+/// Gives the plants of these numbers exports that add up to the total, in seeded parts.
 pub fn share_export(
     period: &mut Period,
     plants: impl Iterator<Item = usize>,
@@ -133,7 +133,7 @@ pub fn let_all_pass(period: &mut Period) {
     choose_outflows(period, |_, inflow| inflow.min(LIMIT));
 }
 
-/// Makes the line of this number one of the owner with so many units and grams a unit.
+/// Makes the line of this number one of the owner, with this quantity and this factor.
 pub fn set_line(period: &mut Period, number: usize, owner: Owner, quantity: u64, factor: u64) {
     period.lines[number - 1] = Line {
         owner,
@@ -143,12 +143,12 @@ pub fn set_line(period: &mut Period, number: usize, owner: Owner, quantity: u64,
     };
 }
 
-/// Makes the line of this number one of the owner with so many kg.
+/// Makes the line of this number one of the owner, with `kg` kg.
 pub fn set_kg(period: &mut Period, number: usize, owner: Owner, kg: u64) {
     set_line(period, number, owner, kg, GRAMS_OF_A_KG);
 }
 
-/// Makes the line of this number one of the owner with so many grams.
+/// Makes the line of this number one of the owner, with `grams` grams.
 pub fn set_grams(period: &mut Period, number: usize, owner: Owner, grams: u64) {
     set_line(period, number, owner, grams, 1);
 }

@@ -82,7 +82,7 @@ fn one_line(owner: Owner, line: usize, (quantity, factor): (u64, u64)) -> Period
     period
 }
 
-/// The first line and this one bring the owner to the limit and so many grams more.
+/// The first line and this one bring the owner to the limit and `more` grams past it.
 fn two_lines(owner: Owner, line: usize, more: u64) -> Period {
     let mut period = through_all_at_limit();
     set_kg(&mut period, 1, owner, LARGEST_KG - KG_OF_SECOND);

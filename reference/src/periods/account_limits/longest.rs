@@ -8,7 +8,7 @@ use crate::periods::records::Period;
 const OF_MOST_GROUPS: u64 = 1 << (GROUP_BITS * (MOST_GROUPS - 1));
 const OF_TWO_GROUPS: u64 = 1 << GROUP_BITS;
 
-/// Every number has as many groups as it may, but for the factors: if quantity and factor of a
+/// Every number has as many groups as it may, except the factors: if quantity and factor of a
 /// line had eight groups together, their product would be past the limit of a gram total.
 pub fn longest_accepted() -> Period {
     let mut period = full_size(

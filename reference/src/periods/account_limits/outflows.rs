@@ -47,8 +47,8 @@ impl Outflow {
     }
 }
 
-/// Every segment with every outflow, where much flows in and where nothing does; and a kg less
-/// out of each segment than flows in.
+/// Every segment with every outflow, with much inflow and with none; and a kg less out of each
+/// segment than flows in.
 pub fn beside_inflow() -> Vec<Period> {
     let mut seeded = Seeded::new(SEED_OF_EXPORTS);
     let mut periods = vec![one_kg_lost_at_each(&mut seeded)];
@@ -84,7 +84,7 @@ fn much_flows(segment: usize, outflow: Outflow, seeded: &mut Seeded) -> Period {
     period
 }
 
-/// Nothing is exported, yet so much is metered at the end of this segment.
+/// Nothing is exported, yet this outflow is metered at the end of the segment.
 fn nothing_flows(segment: usize, outflow: u64) -> Period {
     let mut period = through_all();
     period.segments[segment - 1].outflow = outflow;

@@ -1,4 +1,4 @@
-//! Results of plants where fractions, net, units and deficit change.
+//! Results of plants around the amounts at which gross, net, units and deficit change.
 
 use super::full_size::{each_at_its_store, let_all_pass, set_kg, PLANTS};
 use crate::numbers::number::LIMIT;

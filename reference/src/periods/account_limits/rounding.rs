@@ -3,7 +3,7 @@
 use super::full_size::{set_grams, through_all_at_limit, LINES, OWNERS_AT_ENDS};
 use crate::periods::records::{Owner, Period};
 
-/// The grams of each line where the owner has all lines: less than a kg and whole kg together,
+/// The grams of each line if the owner has all lines: less than a kg and whole kg together,
 /// and around a kg each.
 const GRAMS_OF_ALL_LINES: [u64; 8] = [1, 2, 125, 126, 500, 999, 1000, 1001];
 /// The grams of two lines: together less than a kg, a kg, and more.
@@ -26,7 +26,7 @@ pub fn once_a_total() -> Vec<Period> {
     periods
 }
 
-/// All lines are the owner's, of so many grams each.
+/// All lines are the owner's, of `grams` grams each.
 fn all_lines(owner: Owner, grams: u64) -> Period {
     let mut period = through_all_at_limit();
     for line in 1..=LINES {
@@ -35,7 +35,7 @@ fn all_lines(owner: Owner, grams: u64) -> Period {
     period
 }
 
-/// The first and the last line are the owner's, of so many grams.
+/// The first and the last line are the owner's, with these grams.
 fn first_and_last_line(owner: Owner, (first, last): (u64, u64)) -> Period {
     let mut period = through_all_at_limit();
     set_grams(&mut period, 1, owner, first);

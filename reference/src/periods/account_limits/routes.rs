@@ -90,7 +90,7 @@ pub fn of_every_shape() -> Vec<Period> {
     periods
 }
 
-/// Every so many segments a store; nothing is exported yet.
+/// One segment in every `segments_to_a_store` is a store; nothing is exported yet.
 fn with_stores(segments_to_a_store: usize, lead: Lead, starts: Starts) -> Period {
     full_size(
         |plant| starts.first_of(plant),

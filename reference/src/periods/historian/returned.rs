@@ -6,7 +6,7 @@ use crate::periods::accounts::account;
 use crate::questions::Answer;
 use crate::verdict::Verdict;
 
-/// The bytes of a table before the call: those that the call leaves are known by it.
+/// The bytes of a table before the call, by which those that the call leaves alone are recognised.
 struct Pattern {
     /// The first byte.
     first: u8,
@@ -24,7 +24,7 @@ const SEGMENT_PATTERN: Pattern = Pattern {
 };
 
 impl Pattern {
-    /// A table of so many bytes as it is before the call.
+    /// A table of `length` bytes, as it is before the call.
     fn table(&self, length: usize) -> Vec<u8> {
         let mut next = self.first;
         let mut table = Vec::with_capacity(length);
@@ -133,7 +133,7 @@ mod tests {
     /// A period of one plant and one store, with the plant's export.
     const SMALLEST: [u8; 10] = [1, 1, 1, 0, 3, 1, 0, 6, 2, 0];
 
-    /// What the call with this file and tables of so many bytes must leave.
+    /// What the call with this file and tables of these lengths in bytes must leave.
     fn left_by(file: &[u8], plant: usize, segment: usize) -> Returned {
         Returned::of(file, TableBytes { plant, segment })
     }

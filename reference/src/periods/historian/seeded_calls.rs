@@ -12,7 +12,7 @@ const SEED_OF_SPARE_BYTES: u64 = 0x5EED_000C;
 /// One table in this many has no spare bytes.
 const TABLES_TO_ONE_WITHOUT: usize = 2;
 
-/// So many seeded calls.
+/// `count` seeded calls.
 pub fn seeded_calls(count: usize) -> Vec<HistorianCall> {
     let mut seeded = Seeded::new(SEED_OF_SPARE_BYTES);
     seeded_cases(SEED_OF_CASES)

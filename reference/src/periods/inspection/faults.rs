@@ -7,7 +7,7 @@ use crate::numbers::number::{padded, write_number, LIMIT, MORE_FOLLOW, MOST_GROU
 use crate::numbers::writing::{write_numbers, write_with_form};
 use crate::periods::paper::WHOLE_PERIOD;
 
-/// Numbers that stand after the last one, so that the faults come there too.
+/// Numbers after the last one, so that the faults come there too.
 const NUMBERS_AFTER: [u64; 2] = [300, 5];
 /// The place of a fault behind a number that is refused: one of the last line's.
 const PLACE_BEHIND: usize = 24;

@@ -32,7 +32,7 @@ impl FileToPrint for InspectedFile {
         label_of(printed.lines().last().unwrap_or_default())
     }
 
-    /// The label of the refusal's line; where there is none, the file was read.
+    /// The label of the refusal's line; if there is none, the file was read.
     fn label_besides(printed: &str) -> Option<String> {
         let refusal = printed.lines().find(|line| line.starts_with('R'));
         Some(refusal.map_or("read".to_string(), label_of))

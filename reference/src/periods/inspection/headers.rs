@@ -54,7 +54,7 @@ fn with_header_number(place: usize, value: u64) -> [Vec<u8>; 5] {
     ]
 }
 
-/// The header with as many records as it says, or with those of the whole period where it is not
+/// The header with as many records as it says, or with those of the whole period if it is not
 /// allowed.
 fn with_records(header: &[u64], is_allowed: bool) -> Vec<u64> {
     if is_allowed {

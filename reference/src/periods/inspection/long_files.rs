@@ -56,7 +56,7 @@ fn filled(start: &[u8], number: &[u8], length: usize) -> Vec<u8> {
     file
 }
 
-/// The smallest period and numbers of five bytes, so many bytes in all.
+/// The smallest period and numbers of five bytes, `length` bytes in all.
 fn filled_with_five_bytes(length: usize) -> Vec<u8> {
     filled(&write_numbers(&SMALLEST), &five_bytes(), length)
 }

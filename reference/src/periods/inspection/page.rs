@@ -9,7 +9,7 @@ use std::fmt;
 
 /// How many bytes of a file are walked; a longer file is cut.
 pub const BUFFER_BYTES: usize = 65_535;
-/// What stands for the value of a number that has a fault.
+/// Printed in place of the value of a number that has a fault.
 const NO_VALUE: &str = "-";
 
 /// One number that the walk came to.
@@ -28,7 +28,7 @@ struct Step {
 pub enum End {
     /// The number at this place has the fault 1, 2 or 3.
     Fault { refusal: Refusal, place: usize },
-    /// The file ends, whether a number is needed there or not: so many numbers, so many bytes.
+    /// The file ends, whether a number is needed there or not: how many numbers and bytes it has.
     OfFile { place: usize, byte: u64 },
     /// The file goes on behind the buffer; the first number that is not whole in the buffer, and
     /// the byte where it starts.
@@ -44,7 +44,7 @@ pub struct Page {
     pub end: End,
 }
 
-/// The page of the file: what the walk comes to, and what reading the whole file says. What the
+/// The page of the file: what the walk finds, and what reading the whole file says. What the
 /// accounts refuse is not looked at.
 pub fn inspect(file: &[u8]) -> Page {
     let (steps, end) = walk(file);
@@ -164,7 +164,8 @@ mod tests {
         last.iter().map(|line| line.to_string()).collect()
     }
 
-    /// So many bytes of one-byte numbers behind a header that is not allowed, then the others.
+    /// A header that is not allowed, filled up to `length` bytes with numbers of one byte, then the
+    /// others.
     fn ones_then(length: usize, then: &[u8]) -> Vec<u8> {
         let mut file = NOT_ALLOWED.to_vec();
         file.resize(length, 0x01);

@@ -10,9 +10,9 @@ use crate::seeded::Seeded;
 pub enum Lines {
     /// There are no lines.
     None,
-    /// Grams of any size within the limit, none where nothing flows in.
+    /// Grams of any size within the limit, none at segments without inflow.
     Any,
-    /// Lines that all come to 0 grams.
+    /// Lines that all have 0 grams.
     WithoutGrams,
     /// As `Any`, one owner exactly at the limit.
     ToLimit,
@@ -20,13 +20,13 @@ pub enum Lines {
     OnePast,
     /// As `Any`, one line far past the limit.
     FarPast,
-    /// As `Any`, with grams at a segment where nothing flows in.
+    /// As `Any`, with grams at a segment without inflow.
     WhereNothingFlows,
 }
 
 /// The most grams of an ordinary line: one owner may have all lines.
 const MOST_LINE_GRAMS: u64 = LARGEST_GRAM_TOTAL / *Line::COUNT.end();
-/// The most units and the most grams a unit where nothing flows in.
+/// The most units and the most grams a unit at a segment without inflow.
 const MOST_WHERE_NOTHING_FLOWS: u64 = 2000;
 
 impl Lines {
@@ -40,7 +40,7 @@ impl Lines {
     }
 }
 
-/// Makes so many lines for the plants and for the segments with these inflows.
+/// Makes `count` lines for the plants and for the segments with these inflows.
 pub fn seeded_lines(
     lines: Lines,
     count: usize,
@@ -109,7 +109,7 @@ fn owner_with_flow(plants: usize, inflows: &[u64], seeded: &mut Seeded) -> Owner
     }
 }
 
-/// A line of the owner with at most so many grams.
+/// A line of the owner with at most `most_grams` grams.
 fn seeded_line(owner: Owner, most_grams: u64, seeded: &mut Seeded) -> Line {
     let class = seeded_class(owner, seeded);
     let quantity = seeded.of_any_size(LIMIT);
@@ -133,8 +133,8 @@ fn seeded_class(owner: Owner, seeded: &mut Seeded) -> u64 {
     seeded.within(Owner::classes(kind))
 }
 
-/// Makes two lines the owner's, which add up to the limit and so many grams
-/// more; its other lines come to nothing.
+/// Makes two lines the owner's, which add up to the limit and `more` grams
+/// past it; its other lines have no grams.
 fn bring_to_limit(lines: &mut [Line], owner: Owner, more: u64, seeded: &mut Seeded) {
     for line in lines.iter_mut().filter(|line| line.owner == owner) {
         line.factor = 0;
@@ -161,7 +161,7 @@ fn bring_to_limit(lines: &mut [Line], owner: Owner, more: u64, seeded: &mut Seed
     };
 }
 
-/// Makes one line that of a segment where nothing flows in, if there is such a segment.
+/// Makes one line that of a segment without inflow, if there is such a segment.
 fn add_where_nothing_flows(lines: &mut [Line], inflows: &[u64], seeded: &mut Seeded) {
     let dry: Vec<usize> = (1..=inflows.len())
         .filter(|number| inflows[number - 1] == 0)

@@ -23,7 +23,7 @@ pub enum Outflows {
     FarOver,
 }
 
-/// At most one part in this many is lost where the outflow is a little less.
+/// At most one part in this many is lost if the outflow is a little less.
 const PARTS_TO_A_LOST_ONE: u64 = 50;
 
 /// Gives every segment its outflow in rising number and says what the inflows

@@ -93,7 +93,7 @@ const REFUSED: [Goal; 22] = [
     Goal::Several,
 ];
 
-/// The settings that come together where there are several faults.
+/// The settings that come together if there are several faults.
 const SEVERAL_ROUTES: [Routes; 3] = [Routes::Meeting, Routes::FirstUnpassed, Routes::ThroughAll];
 const SEVERAL_EXPORTS: [Exports; 4] = [
     Exports::Any,
@@ -122,7 +122,7 @@ const SEVERAL_DAMAGES: [Damage; 4] = [
 /// One case of several faults in this many is damaged besides.
 const SEVERAL_TO_A_DAMAGED: usize = 4;
 
-/// After so many cases the sizes come again; no list of goals has a length that shares a factor.
+/// After this many cases the sizes come again; no list of goals has a length that shares a factor.
 const TURNS_OF_SIZES: usize = 19;
 /// Full-size cases of these.
 const FULL_TURNS: usize = 1;
@@ -143,7 +143,7 @@ enum Fit {
 const ENOUGH: [Fit; 3] = [Fit::Just, Fit::Just, Fit::Longer];
 /// Lengths that do not.
 const SHORT: [Fit; 4] = [Fit::OneShort, Fit::OneShort, Fit::Shorter, Fit::Empty];
-/// Lengths where another fault comes first.
+/// Lengths if another fault comes first.
 const ANY_LENGTH: [Fit; 4] = [Fit::Just, Fit::Longer, Fit::OneShort, Fit::Empty];
 /// How many numbers too long a table is at most.
 const MOST_TOO_LONG: usize = 20;

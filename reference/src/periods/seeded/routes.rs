@@ -18,7 +18,7 @@ pub enum Routes {
     FirstUnpassed,
 }
 
-/// One segment in this many is a store where stores are scattered.
+/// One segment in this many is a store if stores are scattered.
 const SEGMENTS_TO_A_STORE: usize = 3;
 
 impl Routes {
@@ -59,7 +59,7 @@ pub fn seeded_routes(
     period
 }
 
-/// A segment that leads to the next one, or a store where there is none.
+/// A segment that leads to the next one, or a store if there is none.
 fn segment_to(next: Option<usize>, seeded: &mut Seeded) -> Segment {
     let kind = match next {
         Some(_) => seeded.within(*Segment::KINDS.start()..=Segment::STORE - 1),

@@ -16,7 +16,7 @@ const SEEDED_FILES: usize = 30_000;
 const SEED_OF_FILES: u64 = 0x5EED_0005;
 /// One file in this many is of middle size, the others are small.
 const FILES_TO_A_MIDDLE_ONE: usize = 8;
-/// How many bytes are hit at most where there are several damages.
+/// How many bytes are hit at most if there are several damages.
 const MOST_HITS: usize = 4;
 
 /// What becomes of a file.

@@ -9,7 +9,7 @@ use std::ops::{Range, RangeInclusive};
 /// Lines at which the fields of a file with many lines are changed.
 const LINES_CHANGED: [usize; 6] = [1, 2, 255, 256, 511, 512];
 
-/// Counts at and past their limits, and every field of the largest files likewise.
+/// Counts at and past their limits, and the same for every field of the largest files.
 pub fn at_and_one_past() -> Vec<Vec<u8>> {
     let mut files = files_of_counts();
     files.extend(counts_beside_the_records());

@@ -151,7 +151,7 @@ pub fn small_and_middle() -> [&'static [u64]; 5] {
     ]
 }
 
-/// A file of these counts with small records, whole where the counts are allowed: one route
+/// A file of these counts with small records, whole if the counts are allowed: one route
 /// through all segments, and lines of the first plant.
 pub fn of_counts(plants: u64, segments: u64, lines: u64) -> Vec<u64> {
     let mut numbers = vec![EDITION, plants, segments, lines];

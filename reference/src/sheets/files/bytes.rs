@@ -24,7 +24,7 @@ pub fn year_with_a_bit_flipped() -> Vec<Vec<u8>> {
         .collect()
 }
 
-/// The mixed year with each byte changed to every value that is wanted for it.
+/// The mixed year with each byte changed to each of the values that are chosen for it.
 pub fn year_changed(values_for: fn(u8) -> Vec<u8>) -> Vec<Vec<u8>> {
     each_byte_changed(&sheet_of(&mixed_year()), values_for)
 }
@@ -38,7 +38,7 @@ pub fn cuts_of_the_longest() -> Vec<Vec<u8>> {
         .collect()
 }
 
-/// The longest sheet with each byte changed to every value that is wanted for it.
+/// The longest sheet with each byte changed to each of the values that are chosen for it.
 pub fn longest_changed(values_for: fn(u8) -> Vec<u8>) -> Vec<Vec<u8>> {
     each_byte_changed(&sheet_of(&changing_largest_year()), values_for)
 }
@@ -64,7 +64,7 @@ pub fn faults_everywhere() -> Vec<Vec<u8>> {
     files
 }
 
-/// Bytes that come after a sheet where there are few files: a number each, or none.
+/// Bytes that come after a sheet if there are few files: a number each, or none.
 const BYTES_AFTER: [u8; 6] = [0x00, 0x01, 0x7F, MORE_FOLLOW, 0x81, u8::MAX];
 
 /// A sheet of one day and the mixed year, followed by one byte, by a number at fault, and by

@@ -82,7 +82,7 @@ fn readings_beside(count: u64) -> BTreeSet<usize> {
     beside
 }
 
-/// The file of a count and so many readings.
+/// The file of a count and `readings` readings.
 fn counted(count: u64, readings: usize) -> Vec<u8> {
     let readings = readings_of(&[(readings, Moves)]);
     write_numbers(&[vec![count], readings].concat())

@@ -2,7 +2,7 @@
 
 use crate::sheets::sheet::sheet_of;
 
-/// The files of all sheets of one to so many days, with readings up to the largest.
+/// The files of all sheets of one to `most_days` days, with readings up to the largest.
 pub fn every_sheet(most_days: u32, largest: usize) -> Vec<Vec<u8>> {
     let sheets = readings_of_few_days(most_days, largest);
     sheets.iter().map(|readings| sheet_of(readings)).collect()

@@ -34,7 +34,7 @@ pub fn long_files() -> Vec<Vec<u8>> {
     files
 }
 
-/// The file with so many of the byte after it that it has the length.
+/// The file filled up to the length with this byte.
 fn filled_up(file: &[u8], length: usize, byte: u8) -> Vec<u8> {
     let mut filled = file.to_vec();
     filled.resize(length, byte);

@@ -19,8 +19,8 @@ const MOVING_READINGS: u64 = 100;
 /// How much further it is each day, turning over.
 const MOVED_IN_A_DAY: u64 = 37;
 
-/// The readings of a meter that does one thing after the other, each for so many days. All are of
-/// one byte if those shown are.
+/// The readings of a meter that does one thing after the other, each for the days given with it.
+/// All are of one byte if those shown are.
 pub fn readings_of(doings: &[(usize, Meter)]) -> Vec<u64> {
     let mut readings = Vec::new();
     for &(days, meter) in doings {

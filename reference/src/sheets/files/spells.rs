@@ -30,7 +30,7 @@ pub fn one_spell() -> Vec<Vec<u8>> {
     files
 }
 
-/// The days on which a spell of so many days starts.
+/// The days on which a spell of `days` days starts.
 fn starts_in_a_year(days: usize) -> BTreeSet<usize> {
     let last_start = YEAR - days + 1;
     let mut starts: BTreeSet<usize> = STARTS.into_iter().collect();
@@ -39,7 +39,7 @@ fn starts_in_a_year(days: usize) -> BTreeSet<usize> {
     starts
 }
 
-/// A sheet of so many days with one spell that starts on a day, counted from 1.
+/// A sheet of `all_days` days with one spell that starts on a day, counted from 1.
 fn with_one_spell(all_days: usize, first: usize, days: usize, reading: u64) -> Vec<u8> {
     let before = first - 1;
     let after = all_days - before - days;
@@ -60,7 +60,7 @@ const TWO_SPELLS: [[Meter; 3]; 7] = [
     [Shows(STUCK), Moves, Shows(0)],
     [Shows(0), Moves, Shows(0)],
 ];
-/// The longest spell where there are two on a small sheet.
+/// The longest spell if there are two on a small sheet.
 const LONGEST_OF_TWO: usize = 12;
 /// The most days before two spells, between and after them.
 const MOST_BEFORE: usize = 2;
@@ -93,7 +93,7 @@ fn amid_few_days(doing: [Meter; 3], days: [usize; 3]) -> Vec<Vec<u8>> {
     files
 }
 
-/// Two spells with what is between them, so many days before and after them.
+/// Two spells with what is between them, and as many days before and after them as given.
 fn amid(before: usize, doing: [Meter; 3], days: [usize; 3], after: usize) -> Vec<u8> {
     let [first, between, second] = doing;
     let [first_days, between_days, second_days] = days;

@@ -7,8 +7,8 @@ use crate::verdict::Verdict;
 
 /// Bytes of a figure, least significant first.
 const FIGURE_BYTES: usize = 8;
-/// What the number of a figure, counted from 1, is added to: all its bytes are this before the
-/// call, so that a figure which the call leaves alone is known by them.
+/// Before the call all bytes of a figure are this plus its number, counted from 1, so that a figure
+/// that the call leaves alone is recognised.
 const BYTE_BEFORE: u8 = 0xB0;
 
 /// The figures as they are before the call.

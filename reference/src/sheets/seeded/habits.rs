@@ -4,7 +4,7 @@ use crate::numbers::number::LIMIT;
 use crate::seeded::Seeded;
 use std::iter;
 
-/// How a meter comes by its readings.
+/// How the readings of a meter change.
 #[derive(Clone, Copy, Debug, PartialEq, Eq)]
 pub enum Habit {
     /// Each day a reading of any size.
@@ -47,10 +47,10 @@ const DAYS_TO_ONE_BELOW: usize = 4;
 const DAYS_TO_ONE_WITH_KG: usize = 20;
 /// One dry sheet in this many is dry all the time.
 const SHEETS_TO_ONE_ALL_DRY: usize = 2;
-/// The longest that even spells are about.
+/// About how long even spells are at most.
 const LONGEST_EVEN: usize = 10;
 
-/// So many readings by this habit.
+/// `days` readings by this habit.
 pub fn readings_by(habit: Habit, days: usize, seeded: &mut Seeded) -> Vec<u64> {
     match habit {
         Habit::AnySize => each_day(days, || seeded.of_any_size(LIMIT)),

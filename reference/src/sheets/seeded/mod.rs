@@ -30,7 +30,8 @@ impl Size {
     }
 }
 
-/// After so many sheets the sizes come again; neither habits nor damages are as many, or a part.
+/// After this many sheets the sizes come again; it shares no factor with the counts of habits and
+/// damages.
 const TURNS_OF_SIZES: usize = 19;
 /// Full years of these.
 const FULL_TURNS: usize = 1;
