@@ -159,7 +159,7 @@ static void check_lengths(void)
         {"one later entry", {PLANT_BYTES + NUMBER, SEGMENT_BYTES + NUMBER}, {0, 0, &whole_rows}},
         {"one spare byte", {PLANT_BYTES + 1, SEGMENT_BYTES + 1}, {0, 0, &whole_rows}},
         {"a later entry and seven spare bytes", {PLANT_BYTES + 2 * NUMBER - 1, SEGMENT_BYTES + 2 * NUMBER - 1}, {0, 0, &whole_rows}},
-        {"plant table of 15 numbers", {PLANT_BYTES - NUMBER, SEGMENT_BYTES}, {14, 16, NULL}},
+        {"a plant table one number short", {PLANT_BYTES - NUMBER, SEGMENT_BYTES}, {14, 16, NULL}},
         {"plant table one byte short", {PLANT_BYTES - 1, SEGMENT_BYTES}, {14, 16, NULL}},
         {"plant table empty", {0, SEGMENT_BYTES}, {14, 16, NULL}},
         {"segment table one number short", {PLANT_BYTES, SEGMENT_BYTES - NUMBER}, {15, 10, NULL}},
@@ -175,7 +175,7 @@ static void check_lengths(void)
 
     file[len] = 0;
     struct expected bytes_after = {9, WHOLE_PERIOD_NUMBERS, NULL};
-    check("whole period and one byte more", (struct bytes){file, len + EXTRA_BYTES}, exact, bytes_after);
+    check("the worked period with a byte behind it", (struct bytes){file, len + EXTRA_BYTES}, exact, bytes_after);
     check("one byte more, both tables empty", (struct bytes){file, len + EXTRA_BYTES}, (struct lengths){0, 0}, bytes_after);
 }
 

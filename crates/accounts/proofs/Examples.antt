@@ -102,7 +102,7 @@ pub examples :
     × (quantified (file (numbers 10000 5001 15002 6 14899 2000 350)) 16 10 ≡ refusal 12 1)
     -- nothing is exported and no meter shows anything, but there are lines
     × (quantified (file (numbers 0 0 0 6 0 2000 350)) 16 10 ≡ refusal 13 1)
-    -- a plant table of 15 numbers
+    -- a plant table that is one number short
     × (quantified whole 15 10 ≡ refusal 14 16)
 unfolding gather value padded reading formed writing written flatMap zipWith classes classAllowed runOf run each reads header plant segment line
     records period periodFile sum chosen gramsOf emission creditsFrom passed turns arrived setOf account plantRows segmentRows testedBy lineTests

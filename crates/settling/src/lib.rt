@@ -1,5 +1,5 @@
 // A period file settled, before any table is looked at: the answer, and what the rows are made of (rules 4.1 to 6.2 and 8.1 to 8.6).
-// The file is read, each line is added to its owner's total as it comes, and the segments are worked in rising number.
+// The file is read, each line is added to its owner's total as it comes, and the segments have their turns in rising number.
 // What each step has to give is defined in `accounts`; the promise of `settle` is an equation with that (specs/Settled.antt).
 pub mod account;
 mod arithmetic;

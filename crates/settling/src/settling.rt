@@ -1,4 +1,4 @@
-// A period settled: its file is read part by part, and its segments are worked in rising number (rules 5.1 and 8.1 to 8.6).
+// A period settled: its file is read part by part, and its segments have their turns in rising number (rules 5.1 and 8.1 to 8.6).
 ghost use mathlib.Core.Path.{_≡_};
 ghost use Rattle.fields.specs.Spots.{firstSpot};
 ghost use Rattle.fields.specs.Reaching.{readsFrom, whole};

@@ -142,7 +142,7 @@ mod tests {
     }
 
     #[test]
-    fn bytes_after_the_last_number_need_not_be_a_number() {
+    fn bytes_behind_the_last_number_need_not_be_a_number() {
         for after in [&[0x00][..], &[0x80], &[0x80, 0x00], &[0xFF; 6]] {
             let file = [&whole_period(), after].concat();
             assert_eq!(refused(&file), "R 9 26");
