@@ -5,7 +5,7 @@ use mathlib.Core.Bool.{true≢false}
 use mathlib.Core.List.{List, [], _∷_, _++_, append-nil}
 use borrow.Author.Tests.{eqb-true}
 use Rattle.fields.specs.Run.{Run, run}
-use Rattle.fields.specs.Readers.{each, Read, read, refused, reads}
+use Rattle.fields.specs.Readers.{each, Read, read, refused, reads, consumes}
 use Rattle.fields.specs.Lists.{inTurn}
 use Rattle.fields.proofs.FieldByField.{goes-over}
 use Rattle.fields.proofs.EndOfFile.{after-read, after-refused}
@@ -61,7 +61,9 @@ period-takes =
 pub numbers-consumed :
     {what : Period} {place : ℕ} {rest : Run} (file : List ℕ) → reads period 0 (run file) ≡ read what place rest → consumed file ≡ periodNumbers what
 unfolding consumed
-numbers-consumed file e = consumed-has _ period-takes (rw e at (goes-over file period 0 0))
+numbers-consumed file e =
+    let all : consumed file ≡ consumes period (run file) = refl in
+    all ∙ consumed-has _ period-takes (rw e at (goes-over file period 0 0))
 
 -- and the header of a file that was read tells how many records its period has
 pub header-told :
