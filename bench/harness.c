@@ -16,8 +16,9 @@
 
 enum { DIFFERENT = 1, CANNOT_GO_ON = 2, DECIMAL = 10 };
 
-typedef uint32_t quantify(const uint8_t *, size_t, uint8_t *, size_t, uint8_t *, size_t, uint64_t *);
-typedef uint32_t days(const uint8_t *, size_t, uint64_t *, uint64_t *, uint64_t *, uint64_t *, uint64_t *, uint64_t *);
+typedef uint32_t quantify(const uint8_t *, size_t, uint8_t *, size_t, uint8_t *, size_t, uint64_t *, uint64_t *);
+typedef uint32_t days(const uint8_t *, size_t, uint64_t *, uint64_t *, uint64_t *, uint64_t *, uint64_t *, uint64_t *,
+                      uint64_t *);
 
 /* What FUNCTION names: a function for each kind of file. */
 struct functions {
@@ -36,7 +37,7 @@ struct answer {
     uint8_t segments[STEEPLECUFF_MOST_SEGMENT_BYTES];
     struct figures figures;
     uint32_t refusal;
-    uint64_t place;
+    uint64_t place, offset;
 };
 
 /* One call: its functions, its file and its answer. */
@@ -57,17 +58,19 @@ static int complain(const char *message, const char *word)
 
 /* These two show what any call costs. */
 static uint32_t empty_quantify(const uint8_t *file, size_t file_len, uint8_t *plants, size_t plants_len,
-                               uint8_t *segments, size_t segments_len, uint64_t *place)
+                               uint8_t *segments, size_t segments_len, uint64_t *place, uint64_t *offset)
 {
-    (void)file, (void)file_len, (void)plants, (void)plants_len, (void)segments, (void)segments_len, (void)place;
+    (void)file, (void)file_len, (void)plants, (void)plants_len, (void)segments, (void)segments_len;
+    (void)place, (void)offset;
     return STEEPLECUFF_ACCEPTED;
 }
 
 static uint32_t empty_days(const uint8_t *sheet, size_t sheet_len, uint64_t *sum, uint64_t *repeated,
-                           uint64_t *repeated_zero, uint64_t *longest, uint64_t *first, uint64_t *place)
+                           uint64_t *repeated_zero, uint64_t *longest, uint64_t *first, uint64_t *place,
+                           uint64_t *offset)
 {
     (void)sheet, (void)sheet_len, (void)sum, (void)repeated, (void)repeated_zero;
-    (void)longest, (void)first, (void)place;
+    (void)longest, (void)first, (void)place, (void)offset;
     return STEEPLECUFF_ACCEPTED;
 }
 
@@ -97,7 +100,8 @@ static inline void make_quantify(void *made)
     struct call *one = made;
     struct answer *answer = &one->answer;
     answer->refusal = one->functions.quantify(one->file.bytes, one->file.len, answer->plants, sizeof answer->plants,
-                                              answer->segments, sizeof answer->segments, &answer->place);
+                                              answer->segments, sizeof answer->segments, &answer->place,
+                                              &answer->offset);
 }
 
 static inline void make_days(void *made)
@@ -106,7 +110,7 @@ static inline void make_days(void *made)
     struct figures *figures = &one->answer.figures;
     one->answer.refusal =
         one->functions.days(one->file.bytes, one->file.len, &figures->sum, &figures->repeated, &figures->repeated_zero,
-                            &figures->longest, &figures->first, &one->answer.place);
+                            &figures->longest, &figures->first, &one->answer.place, &one->answer.offset);
 }
 
 /* What makes the call that the file is for. */
@@ -138,7 +142,7 @@ static int compare(const char *file)
     ours = answer_of("steeplecuff");
     plain = answer_of("plain");
     bool alike = ours.refusal == call.file.refusal && plain.refusal == call.file.refusal && ours.place == plain.place &&
-                 memcmp(ours.plants, plain.plants, sizeof ours.plants) == 0 &&
+                 ours.offset == plain.offset && memcmp(ours.plants, plain.plants, sizeof ours.plants) == 0 &&
                  memcmp(ours.segments, plain.segments, sizeof ours.segments) == 0 &&
                  memcmp(&ours.figures, &plain.figures, sizeof ours.figures) == 0;
     return alike ? 0 : DIFFERENT;

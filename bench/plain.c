@@ -26,6 +26,7 @@ struct segment {
 
 struct line {
     uint32_t owner_kind, owner, class, quantity, factor;
+    uint32_t start; /* the offset of its first number, below STEEPLECUFF_MOST_FILE_BYTES */
 };
 
 struct period {
@@ -102,6 +103,7 @@ static uint32_t read_owner_and_class(struct reader *reader, const struct period 
 static uint32_t read_line(struct reader *reader, const struct period *period, struct line *line)
 {
     const uint32_t refusal = STEEPLECUFF_REFUSED_LINE_FIELD;
+    line->start = (uint32_t)reader->next;
     uint32_t fault = read_owner_and_class(reader, period, line);
     if (fault == 0)
         fault = read_field(reader, 0, LARGEST, refusal, &line->quantity);
@@ -110,7 +112,7 @@ static uint32_t read_line(struct reader *reader, const struct period *period, st
     return fault;
 }
 
-/* Reads the whole file: refusals 1 to 9, the place in the reader. */
+/* Reads the whole file: refusals 1 to 9, the place and the offset in the reader. */
 static uint32_t read_period(struct reader *reader, struct period *period)
 {
     uint32_t fault = read_header(reader, period);
@@ -126,7 +128,7 @@ static uint32_t read_period(struct reader *reader, struct period *period)
 }
 
 /* Adds up the grams of each owner: refusal 10. */
-static uint32_t add_grams(const struct period *period, struct accounts *accounts, uint64_t *place)
+static uint32_t add_grams(const struct period *period, struct accounts *accounts, uint64_t *place, uint64_t *offset)
 {
     for (uint32_t l = 0; l < period->lines; l++) {
         const struct line *line = &period->line[l];
@@ -135,6 +137,7 @@ static uint32_t add_grams(const struct period *period, struct accounts *accounts
         *grams += (uint64_t)line->quantity * line->factor;
         if (*grams > MOST_GRAMS) {
             *place = l + 1;
+            *offset = line->start;
             return STEEPLECUFF_REFUSED_GRAMS_OVER_LIMIT;
         }
     }
@@ -298,12 +301,12 @@ static void write_tables(const struct period *period, const struct accounts *acc
                                kg_of(accounts->segment_grams[s]), accounts->passing[s]);
 }
 
-/* Refusals 10 to 15, then the tables. */
+/* Refusals 10 to 15, then the tables; `*offset` is the file's length at first, which is that of 11 to 15. */
 static uint32_t account(const struct period *period, uint8_t *plants, size_t plants_len, uint8_t *segments,
-                        size_t segments_len, uint64_t *place)
+                        size_t segments_len, uint64_t *place, uint64_t *offset)
 {
     struct accounts accounts = {0};
-    uint32_t fault = add_grams(period, &accounts, place);
+    uint32_t fault = add_grams(period, &accounts, place, offset);
     if (fault == 0)
         fault = walk(period, &accounts, place);
     if (fault == 0)
@@ -312,18 +315,20 @@ static uint32_t account(const struct period *period, uint8_t *plants, size_t pla
         return fault;
     write_tables(period, &accounts, plants, segments);
     *place = 0;
+    *offset = 0;
     return 0;
 }
 
 uint32_t plain_quantify(const uint8_t *file, size_t file_len, uint8_t *plants, size_t plants_len, uint8_t *segments,
-                        size_t segments_len, uint64_t *place)
+                        size_t segments_len, uint64_t *place, uint64_t *offset)
 {
     struct reader reader = {file, file_len, 0, 0};
     struct period period;
     uint32_t fault = read_period(&reader, &period);
+    *offset = reader.next; /* the file's length, if all of it is read */
     if (fault != 0) {
         *place = reader.place;
         return fault;
     }
-    return account(&period, plants, plants_len, segments, segments_len, place);
+    return account(&period, plants, plants_len, segments, segments_len, place, offset);
 }

@@ -7,10 +7,10 @@
 
 /* The accounts of a period: steeplecuff_quantify. */
 uint32_t plain_quantify(const uint8_t *file, size_t file_len, uint8_t *plants, size_t plants_len, uint8_t *segments,
-                        size_t segments_len, uint64_t *place);
+                        size_t segments_len, uint64_t *place, uint64_t *offset);
 
 /* The figures of a meter's sheet: steeplecuff_days. */
 uint32_t plain_days(const uint8_t *sheet, size_t sheet_len, uint64_t *sum, uint64_t *repeated, uint64_t *repeated_zero,
-                    uint64_t *longest, uint64_t *first, uint64_t *place);
+                    uint64_t *longest, uint64_t *first, uint64_t *place, uint64_t *offset);
 
 #endif

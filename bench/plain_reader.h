@@ -1,4 +1,5 @@
-/* Reads seven-bit numbers in plain C. The functions are in the header, so that they are compiled with what calls them. */
+/* Reads seven-bit numbers in plain C. The functions are in the header, and inline, so that they are compiled into what
+   calls them. */
 #ifndef PLAIN_READER_H
 #define PLAIN_READER_H
 
@@ -17,7 +18,7 @@ struct reader {
 };
 
 /* Reads one number; answers 0 or refusal 1, 2 or 3. */
-static uint32_t read_number(struct reader *reader, uint64_t *number)
+static inline uint32_t read_number(struct reader *reader, uint64_t *number)
 {
     *number = 0;
     for (unsigned group = 0; group < MOST_GROUPS; group++) {
@@ -34,15 +35,20 @@ static uint32_t read_number(struct reader *reader, uint64_t *number)
     return STEEPLECUFF_REFUSED_NUMBER_OVER_LIMIT;
 }
 
-/* Reads a field of `least` to `most`; answers 0, the refusal of the number, or `refusal` if it is out of range. */
-static uint32_t read_field(struct reader *reader, uint32_t least, uint32_t most, uint32_t refusal, uint32_t *field)
+/* Reads a field of `least` to `most`; answers 0, the refusal of the number, or `refusal` if it is out of range. With a
+   refusal the reader is back at the number's first byte, so that `next` is the offset as `place` is the place. */
+static inline uint32_t read_field(struct reader *reader, uint32_t least, uint32_t most, uint32_t refusal,
+                                  uint32_t *field)
 {
     uint64_t number;
+    size_t start = reader->next;
     uint32_t fault = read_number(reader, &number);
-    if (fault != 0)
+    if (fault == 0 && (number < least || number > most))
+        fault = refusal;
+    if (fault != 0) {
+        reader->next = start;
         return fault;
-    if (number < least || number > most)
-        return refusal;
+    }
     *field = (uint32_t)number;
     reader->place++;
     return 0;

@@ -1,7 +1,8 @@
 /*
  * historian FILE: a small plant historian. It reads a period file, has the library work it out, and prints a row for each
- * plant and for each segment, or says why the file is refused. Exits with 0, with 1 if the file is refused, with 2 if it
- * could not be read or the rows could not be written. README.md in this folder says how to build and run it.
+ * plant and for each segment, or says why the file is refused and at which byte. Exits with 0, with 1 if the file is
+ * refused, with 2 if it could not be read or the rows could not be written. README.md in this folder says how to build
+ * and run it.
  */
 #include <inttypes.h>
 #include <stdbool.h>
@@ -70,24 +71,32 @@ static const char *const reasons[] = {
     [STEEPLECUFF_REFUSED_SEGMENT_TABLE_SHORT] = "the segment table is too short",
 };
 
+/* Prints the refusal in numbers, and in words with the byte as people find it in a byte viewer. */
+static void print_refusal(uint32_t refusal, uint64_t place, uint64_t offset, size_t file_len)
+{
+    printf("R %" PRIu32 " %" PRIu64 " %" PRIu64 "\n", refusal, place, offset);
+    fprintf(stderr, "historian: refused, %" PRIu32 " at %" PRIu64 ": %s\n", refusal, place, reasons[refusal]);
+    fprintf(stderr, "historian: byte %" PRIu64 " of the file (%" PRIX64 " in hexadecimal)%s\n", offset, offset,
+            offset == file_len ? ", which is its end" : "");
+}
+
 int main(int argc, char **argv)
 {
     static struct file file;
     static uint8_t plants[STEEPLECUFF_MOST_PLANT_BYTES], segments[STEEPLECUFF_MOST_SEGMENT_BYTES];
-    uint64_t place;
+    uint64_t place, offset;
 
     if (argc != 2 || !read_file(&file, argv[1])) {
         fprintf(stderr, "historian: cannot read a period file: write historian FILE, with a file that you may read\n");
         return NOT_DONE;
     }
     uint32_t answer =
-        steeplecuff_quantify(file.bytes, file.len, plants, sizeof plants, segments, sizeof segments, &place);
+        steeplecuff_quantify(file.bytes, file.len, plants, sizeof plants, segments, sizeof segments, &place, &offset);
     if (answer == STEEPLECUFF_ACCEPTED) {
         print_rows('P', plants, file.bytes[STEEPLECUFF_PLANTS_BYTE], STEEPLECUFF_PLANT_NUMBERS);
         print_rows('S', segments, file.bytes[STEEPLECUFF_SEGMENTS_BYTE], STEEPLECUFF_SEGMENT_NUMBERS);
     } else {
-        printf("R %" PRIu32 " %" PRIu64 "\n", answer, place);
-        fprintf(stderr, "historian: refused, %" PRIu32 " at %" PRIu64 ": %s\n", answer, place, reasons[answer]);
+        print_refusal(answer, place, offset, file.len);
     }
     if (fflush(stdout) != 0 || ferror(stdout)) {
         fprintf(stderr, "historian: cannot write to standard output: see that there is room, and run this again\n");

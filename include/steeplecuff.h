@@ -4,11 +4,12 @@
  *
  * There are two calls. steeplecuff_quantify takes a period file and fills two tables: a row for each plant and a row
  * for each segment. steeplecuff_days takes a meter's sheet, the readings of up to a year, and gives five figures, among
- * them on how many days the meter repeated itself. Each call can also refuse what it is given; it then says why and
- * where. docs/GUIDE.md explains the file, the sheet, the rows, the figures and the refusals, and docs/RULES.md has the
- * rules by number. This page says how a C or C++ program makes the calls, in this order:
+ * them on how many days the meter repeated itself. Each call can also refuse what it is given; it then says why, where
+ * and at which byte. docs/GUIDE.md explains the file, the sheet, the rows, the figures and the refusals, and
+ * docs/RULES.md has the rules by number. This page says how a C or C++ program makes the calls, in this order:
  *
- *   the version . the row of a plant . the row of a segment . limits . counts . answers . quantify . days . an example
+ *   the version . the row of a plant . the row of a segment . limits . counts . answers . offsets . quantify . days .
+ *   an example
  *
  * Link with the archive target/staticlib/libhistorian.a, for x86-64, which `rt staticlib historian` proves and builds. Of
  * the C library it needs memcpy and memset. examples/historian.c is a whole program; examples/README.md shows how to
@@ -20,9 +21,15 @@
 #include <stddef.h>
 #include <stdint.h>
 
-/* The version of this header and of the archive that it goes with. Its first part changes if callers have to change
-   their code. */
-#define STEEPLECUFF_VERSION "1.1.0"
+/*
+ * The version of this header and of the archive that it goes with. Its first part changes if callers have to change
+ * their code.
+ *
+ * New in 2.0.0: both calls have one more parameter, offset, as their last. So calls have to be written and compiled
+ * again. What was compiled for 1.1.0 can still be linked, but must not be: it lends no offset, and the call would write
+ * to a wrong address. All else is as in 1.1.0: numbers of refusal, places, tables and figures.
+ */
+#define STEEPLECUFF_VERSION "2.0.0"
 
 #ifdef __cplusplus
 extern "C" {
@@ -85,7 +92,7 @@ enum steeplecuff_count_byte { STEEPLECUFF_PLANTS_BYTE = 1, STEEPLECUFF_SEGMENTS_
  * count of days, which 5 refuses; its number d is the reading of day d; so the place of 9 is one more than the days.
  */
 enum steeplecuff_answer {
-    STEEPLECUFF_ACCEPTED = 0,                         /* both tables, or all figures, are written; the place is 0 */
+    STEEPLECUFF_ACCEPTED = 0,                         /* both tables, or all figures, are written; place and offset 0 */
     STEEPLECUFF_REFUSED_FILE_ENDS = 1,                /* the file ends within a number or before one that is due: number */
     STEEPLECUFF_REFUSED_NOT_SHORTEST = 2,             /* a number is not in its shortest form: number */
     STEEPLECUFF_REFUSED_NUMBER_OVER_LIMIT = 3,        /* a fifth group says more follow, or over 4,000,000,000: number */
@@ -104,8 +111,23 @@ enum steeplecuff_answer {
 };
 
 /*
- * Works out one period (rules 10.1 to 10.6). Answers one of steeplecuff_answer and sets *place: to 0 if the file is
- * accepted, else to the place of the fault.
+ * The offset (rule 8.9): at which byte the fault is. It is the byte that a byte viewer shows, so that nobody has to count
+ * numbers there. Bytes are counted from 0; many viewers show them in hexadecimal.
+ *
+ *   answer     offset
+ *   0          0
+ *   1, 2, 3    the first byte of the number at fault; if no byte of it is there, the length of the file
+ *   4 to 8     the first byte of the field's number
+ *   9          the first byte behind the last number
+ *   10         the first byte of the line's first number
+ *   11 to 15   the length of the file: no single byte is at fault
+ *
+ * The answers to a sheet have the same offsets, counted in the sheet. No offset is larger than the length.
+ */
+
+/*
+ * Works out one period (rules 10.1 to 10.6). Answers one of steeplecuff_answer and sets *place and *offset: to 0 if the
+ * file is accepted, else to the place and the byte of the fault.
  *
  * In:   file[0 .. file_len - 1], the period file. It is only read; every content and length is answered.
  * Out:  plants[0 .. plants_len - 1] and segments[0 .. segments_len - 1], the tables. A table is a run of numbers of eight
@@ -115,18 +137,18 @@ enum steeplecuff_answer {
  *       A refusal leaves both tables as they were.
  *
  * The caller must make sure that no pointer is null, not even if its length is 0; that each is good for its length; and
- * that the tables and *place overlap neither each other nor the file.
+ * that the tables, *place and *offset overlap neither each other nor the file.
  *
  * The call keeps nothing from one call to the next and has no global state: threads may call it at the same time, each
- * with tables and a place of its own, also on the same file. It allocates nothing, calls nothing back and returns for
- * every input. It uses some 7,500 bytes of stack, whatever the file (docs/PERFORMANCE.md).
+ * with tables, a place and an offset of its own, also on the same file. It allocates nothing, calls nothing back and
+ * returns for every input. It uses some 7,500 bytes of stack, whatever the file (docs/PERFORMANCE.md).
  */
 uint32_t steeplecuff_quantify(const uint8_t *file, size_t file_len, uint8_t *plants, size_t plants_len,
-                              uint8_t *segments, size_t segments_len, uint64_t *place);
+                              uint8_t *segments, size_t segments_len, uint64_t *place, uint64_t *offset);
 
 /*
- * Works out one meter's sheet (rules 12.1 to 12.9). Answers one of steeplecuff_answer and sets *place: to 0 if the sheet
- * is accepted, else to the place of the fault.
+ * Works out one meter's sheet (rules 12.1 to 12.9). Answers one of steeplecuff_answer and sets *place and *offset: to 0
+ * if the sheet is accepted, else to the place and the byte of the fault.
  *
  * In:   sheet[0 .. sheet_len - 1], the sheet: numbers written as in a period file, first the count of days, 1 to
  *       STEEPLECUFF_MOST_DAYS, then for each day its reading in kg, and nothing behind the last. It is only read; every
@@ -142,14 +164,16 @@ uint32_t steeplecuff_quantify(const uint8_t *file, size_t file_len, uint8_t *pla
  *       A refusal leaves the five as they were.
  *
  * The caller must make sure that no pointer is null, not even that of an empty sheet; that the sheet is good for its
- * length; and that the figures and *place overlap neither each other nor the sheet.
+ * length; and that the figures, *place and *offset overlap neither each other nor the sheet.
  *
  * Like the first call, this one keeps nothing from one call to the next and has no global state: threads may make both
- * calls at the same time, each with figures and a place of its own, also on the same sheet. It allocates nothing, calls
- * nothing back and returns for every input. It uses some 200 bytes of stack, whatever the sheet (docs/PERFORMANCE.md).
+ * calls at the same time, each with figures, a place and an offset of its own, also on the same sheet. It allocates
+ * nothing, calls nothing back and returns for every input. It uses some 200 bytes of stack, whatever the sheet
+ * (docs/PERFORMANCE.md).
  */
 uint32_t steeplecuff_days(const uint8_t *sheet, size_t sheet_len, uint64_t *sum, uint64_t *repeated,
-                          uint64_t *repeated_zero, uint64_t *longest, uint64_t *first, uint64_t *place);
+                          uint64_t *repeated_zero, uint64_t *longest, uint64_t *first, uint64_t *place,
+                          uint64_t *offset);
 
 /*
 Example:
@@ -169,11 +193,11 @@ Example:
     void print_units(const uint8_t *file, size_t file_len)
     {
         uint8_t plants[STEEPLECUFF_MOST_PLANT_BYTES], segments[STEEPLECUFF_MOST_SEGMENT_BYTES];
-        uint64_t place;
+        uint64_t place, offset;
         uint32_t refusal =
-            steeplecuff_quantify(file, file_len, plants, sizeof plants, segments, sizeof segments, &place);
+            steeplecuff_quantify(file, file_len, plants, sizeof plants, segments, sizeof segments, &place, &offset);
         if (refusal != STEEPLECUFF_ACCEPTED) {
-            printf("refused: %" PRIu32 " at %" PRIu64 "\n", refusal, place);
+            printf("refused: %" PRIu32 " at %" PRIu64 ", byte %" PRIu64 "\n", refusal, place, offset);
             return;
         }
         for (size_t plant = 0; plant < file[STEEPLECUFF_PLANTS_BYTE]; plant++)
@@ -183,11 +207,11 @@ Example:
 
     void print_longest_run(const uint8_t *sheet, size_t sheet_len)
     {
-        uint64_t sum, repeated, repeated_zero, longest, first, place;
+        uint64_t sum, repeated, repeated_zero, longest, first, place, offset;
         uint32_t refusal =
-            steeplecuff_days(sheet, sheet_len, &sum, &repeated, &repeated_zero, &longest, &first, &place);
+            steeplecuff_days(sheet, sheet_len, &sum, &repeated, &repeated_zero, &longest, &first, &place, &offset);
         if (refusal != STEEPLECUFF_ACCEPTED)
-            printf("refused: %" PRIu32 " at %" PRIu64 "\n", refusal, place);
+            printf("refused: %" PRIu32 " at %" PRIu64 ", byte %" PRIu64 "\n", refusal, place, offset);
         else if (longest == 0)
             printf("nothing was metered\n");
         else

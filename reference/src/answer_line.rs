@@ -47,27 +47,27 @@ mod tests {
 
     #[test]
     fn line_ends_with_its_newline() {
-        let answer = line("R 1 0\n");
+        let answer = line("R 1 0 0\n");
         assert_eq!(answer.length_in(b""), 0);
         assert_eq!(answer.length_in(b"\n"), 1);
-        assert_eq!(answer.length_in(b"N 300 2\nR 1 0\n"), 8);
+        assert_eq!(answer.length_in(b"N 300 0 2\nR 1 0 0\n"), 10);
         assert_eq!(answer.length_in(b"N 300"), 5);
     }
 
     #[test]
     fn words_show_both_lines() {
-        let answer = line("N 300 2\n");
+        let answer = line("N 300 0 2\n");
         assert_eq!(
-            answer.difference(b"N 300 1\n"),
-            r#"expected "N 300 2", came "N 300 1""#
+            answer.difference(b"N 300 0 1\n"),
+            r#"expected "N 300 0 2", came "N 300 0 1""#
         );
         assert_eq!(
-            answer.difference(b"N 300 2"),
-            r#"expected "N 300 2", came "N 300 2" without a newline"#
+            answer.difference(b"N 300 0 2"),
+            r#"expected "N 300 0 2", came "N 300 0 2" without a newline"#
         );
         assert_eq!(
             answer.difference(b""),
-            r#"expected "N 300 2", came no line"#
+            r#"expected "N 300 0 2", came no line"#
         );
     }
 }

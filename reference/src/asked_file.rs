@@ -14,12 +14,12 @@ pub enum Kind {
 }
 
 /// The asked byte if the kind asks about the file as a whole.
-pub const NO_OFFSET: u64 = 0;
+pub const NO_BYTE: u64 = 0;
 
 /// A file and the byte of it that is asked about.
 #[derive(Clone, Copy, Debug, PartialEq, Eq)]
 pub struct AskedFile<'a> {
-    pub offset: u64,
+    pub byte: u64,
     pub file: &'a [u8],
 }
 
@@ -27,7 +27,7 @@ impl<'a> AskedFile<'a> {
     /// Appends the frame of a case of this kind.
     pub fn write_frame(self, kind: Kind, frames: &mut Vec<u8>) {
         frames.push(kind as u8);
-        frames.extend(self.offset.to_le_bytes());
+        frames.extend(self.byte.to_le_bytes());
         write_file(self.file, frames);
     }
 
@@ -38,10 +38,10 @@ impl<'a> AskedFile<'a> {
         if came != expected {
             return Err(FrameFault::OtherKind { came, expected });
         }
-        let (offset, rest) = first_array(rest)?;
-        let offset = u64::from_le_bytes(offset);
+        let (byte, rest) = first_array(rest)?;
+        let byte = u64::from_le_bytes(byte);
         let (file, rest) = first_file(rest)?;
-        Ok((AskedFile { offset, file }, rest))
+        Ok((AskedFile { byte, file }, rest))
     }
 }
 
@@ -50,7 +50,7 @@ mod tests {
     use super::*;
 
     const ASKED: AskedFile = AskedFile {
-        offset: 0x0102_0304_0506_0708,
+        byte: 0x0102_0304_0506_0708,
         file: &[0xAC, 0x02],
     };
 

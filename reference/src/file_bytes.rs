@@ -1,6 +1,6 @@
 //! What becomes of the bytes of any file: cut, changed, followed by others, or noise.
 
-use crate::numbers::number::MORE_FOLLOW;
+use crate::numbers::number::{MORE_FOLLOW, MOST_GROUPS};
 use crate::seeded::Seeded;
 use std::iter;
 
@@ -59,6 +59,23 @@ pub fn tails_of_bytes() -> Vec<Vec<u8>> {
         tails.extend(BYTES_OF_RUNS_AFTER.map(|byte| vec![byte; length]));
     }
     tails
+}
+
+/// How many bytes come after a file if there are many.
+const MANY_BYTES_AFTER: usize = 300;
+
+/// A file followed by one byte and by many, be they numbers or not, and by itself.
+pub fn followed_by_few_and_many(whole: &[u8]) -> Vec<Vec<u8>> {
+    let tails = [
+        vec![0],
+        vec![MORE_FOLLOW],
+        vec![MORE_FOLLOW, 0],
+        vec![u8::MAX; MOST_GROUPS],
+        vec![1; MANY_BYTES_AFTER],
+        vec![MORE_FOLLOW; MANY_BYTES_AFTER],
+        whole.to_vec(),
+    ];
+    tails.map(|tail| [whole, &tail].concat()).to_vec()
 }
 
 /// A file cut at a seeded place; it must not be empty.
@@ -184,6 +201,14 @@ mod tests {
         assert_eq!(tails.len(), 256 + 5 * 4);
         assert!(tails.contains(&vec![0xFF; 6]));
         assert!(tails.iter().all(|tail| !tail.is_empty()));
+    }
+
+    #[test]
+    fn few_bytes_and_many_follow_a_file() {
+        let files = followed_by_few_and_many(&[1, 2, 3]);
+        assert!(files.iter().all(|file| file.starts_with(&[1, 2, 3])));
+        let lengths: Vec<usize> = files.iter().map(Vec::len).collect();
+        assert_eq!(lengths, [4, 4, 5, 8, 303, 303, 6]);
     }
 
     #[test]

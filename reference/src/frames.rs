@@ -122,11 +122,11 @@ mod tests {
         vec![
             NumberAt {
                 file: vec![0xAC, 0x02],
-                offset: 0x0102_0304_0506_0708,
+                byte: 0x0102_0304_0506_0708,
             },
             NumberAt {
                 file: vec![],
-                offset: u64::MAX,
+                byte: u64::MAX,
             },
         ]
     }
@@ -168,14 +168,14 @@ mod tests {
     }
 
     #[test]
-    fn frame_of_a_number_is_letter_then_place_then_length_then_bytes() {
+    fn frame_of_a_number_is_letter_then_asked_byte_then_length_then_bytes() {
         let frames = write_frames(&two_numbers()[..1]);
         let expected = [0x4E, 8, 7, 6, 5, 4, 3, 2, 1, 2, 0, 0, 0, 0xAC, 0x02];
         assert_eq!(frames, expected);
     }
 
     #[test]
-    fn frame_of_a_period_is_letter_then_no_place_then_length_then_bytes() {
+    fn frame_of_a_period_is_letter_then_no_asked_byte_then_length_then_bytes() {
         let frames = write_frames(&two_files());
         let expected = [
             &[0x50, 0, 0, 0, 0, 0, 0, 0, 0, 3, 0, 0, 0, 0x01, 0x02, 0x80][..],

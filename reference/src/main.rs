@@ -69,14 +69,15 @@ usage: reference answer numbers|readings|historian|historian-days
        reference inspect
            writes the inspector's page of the period file on standard input: a line
            for each number, its refusal if its reading refuses it, and a line for how
-           the walk ends
+           the walk ends; the line of the number at which it is refused ends with <--
        reference days
            writes the five figures of the sheet on standard input, or its refusal
        reference cases periods SEED COUNT
            writes COUNT cases of whole periods with their answers, one line each;
            SEED and COUNT are whole numbers, and the paper's own cases come first
        reference cases sheets SEED COUNT
-           the same for sheets, some worked out by hand first";
+           the same for sheets, some worked out by hand first
+a refusal is printed in one line: R, its number, its place, and its byte in the file";
 
 /// What the caller asks for.
 enum Task {

@@ -160,9 +160,9 @@ mod tests {
 
     #[test]
     fn labels_tell_refusals_and_faults_apart() {
-        assert_eq!(label_of("N 300 3\n"), "N");
-        assert_eq!(label_of("R 1 7\n"), "R1");
-        assert_eq!(label_of("R 12 7\n"), "R12");
+        assert_eq!(label_of("N 300 1 3\n"), "N");
+        assert_eq!(label_of("R 1 7 9\n"), "R1");
+        assert_eq!(label_of("R 12 7 37\n"), "R12");
         assert_eq!(label_of("F 3 7\n"), "F3");
         assert_eq!(label_of("A 1 1 1 0\n"), "A");
         assert_eq!(label_of("\n"), "");

@@ -1,4 +1,4 @@
-//! Why a file is refused, and where.
+//! Why a file is refused, and where: at which place, and at which byte.
 
 use crate::numbers::number::Refusal;
 use std::fmt;
@@ -24,9 +24,9 @@ pub enum Reason {
 }
 
 impl Reason {
-    /// The refusal for this reason at a place.
-    pub fn at(self, place: usize) -> Refused {
-        Refused {
+    /// This reason at a place.
+    pub fn at(self, place: usize) -> Placed {
+        Placed {
             reason: self,
             place,
         }
@@ -43,16 +43,64 @@ impl From<Refusal> for Reason {
     }
 }
 
-/// A refusal: its reason, and the place the paper asks for with it.
+/// A reason and the place the paper asks for with it: all that can be said without the file.
 #[derive(Clone, Copy, Debug, PartialEq, Eq)]
-pub struct Refused {
+pub struct Placed {
     pub reason: Reason,
     pub place: usize,
 }
 
+impl Placed {
+    /// The refusal of a file, with the byte of the file that belongs to it.
+    pub fn with_offset(self, offset: u64) -> Refused {
+        Refused {
+            reason: self.reason,
+            place: self.place,
+            offset,
+        }
+    }
+}
+
+/// A refusal: its reason, its place, and its byte in the file, counted from 0.
+#[derive(Clone, Copy, Debug, PartialEq, Eq)]
+pub struct Refused {
+    pub reason: Reason,
+    pub place: usize,
+    pub offset: u64,
+}
+
 impl fmt::Display for Refused {
     fn fmt(&self, out: &mut fmt::Formatter) -> fmt::Result {
-        write!(out, "R {} {}", self.reason as u8, self.place)
+        let Refused {
+            reason,
+            place,
+            offset,
+        } = *self;
+        write!(out, "R {} {place} {offset}", reason as u8)
+    }
+}
+
+/// What the tests of all files ask.
+#[cfg(test)]
+pub mod offsets_checked {
+    use super::*;
+    use crate::numbers::number::MORE_FOLLOW;
+
+    /// Asserts that so many sound numbers, and nothing else, are before the byte: each of them has
+    /// one byte that says that no other group follows, which is its last.
+    pub fn assert_behind_numbers(file: &[u8], offset: u64, numbers: usize) {
+        let ends_number = |byte: &&u8| **byte < MORE_FOLLOW;
+        let before = &file[..offset as usize];
+        assert_eq!(before.iter().filter(ends_number).count(), numbers);
+        assert!(before.last().iter().all(ends_number));
+    }
+
+    /// Asserts that a refusal of reading has the byte that goes with its place, and that the file
+    /// is not at its end there unless that is the reason.
+    pub fn assert_offset_of_number(file: &[u8], refused: &Refused) {
+        assert_behind_numbers(file, refused.offset, refused.place);
+        let at_end = refused.offset == file.len() as u64;
+        assert!(!at_end || refused.reason == Reason::FileEnds);
     }
 }
 
@@ -61,9 +109,14 @@ mod tests {
     use super::*;
 
     #[test]
-    fn refusal_is_shown_as_number_and_place() {
-        assert_eq!(Reason::FileEnds.at(0).to_string(), "R 1 0");
-        assert_eq!(Reason::SegmentTableShort.at(160).to_string(), "R 15 160");
+    fn refusal_is_shown_as_number_place_and_offset() {
+        let shown = |reason: Reason, place, offset| {
+            let refused = reason.at(place).with_offset(offset);
+            refused.to_string()
+        };
+        assert_eq!(shown(Reason::FileEnds, 0, 0), "R 1 0 0");
+        assert_eq!(shown(Reason::PlantField, 5, 9), "R 6 5 9");
+        assert_eq!(shown(Reason::SegmentTableShort, 160, 7029), "R 15 160 7029");
     }
 
     #[test]

@@ -1,19 +1,21 @@
-//! What every call from C answers first: the refusal, 4 bytes, and its place, 8 bytes, both least
-//! significant first.
+//! What every call from C answers first: the refusal, 4 bytes, its place, 8 bytes, and its offset,
+//! 8 bytes, all least significant first.
 
 use crate::frames::split;
 use crate::refusal::Refused;
 use std::fmt;
 
-/// The refusal and the place that are answered for an accepted file.
+/// The refusal, the place and the offset that are answered for an accepted file.
 const ACCEPTED: u32 = 0;
 const NO_PLACE: u64 = 0;
+const NO_OFFSET: u64 = 0;
 
-/// The number of the refusal and the place, as they are answered.
+/// The number of the refusal, the place and the offset, as they are answered.
 #[derive(Clone, Copy, Debug, PartialEq, Eq)]
 pub struct Verdict {
     refusal: u32,
     place: u64,
+    offset: u64,
 }
 
 impl Verdict {
@@ -23,10 +25,12 @@ impl Verdict {
             Ok(_) => Verdict {
                 refusal: ACCEPTED,
                 place: NO_PLACE,
+                offset: NO_OFFSET,
             },
             Err(refused) => Verdict {
                 refusal: refused.reason as u32,
                 place: refused.place as u64,
+                offset: refused.offset,
             },
         }
     }
@@ -35,9 +39,11 @@ impl Verdict {
     pub fn first_in(bytes: &[u8]) -> Option<(Self, &[u8])> {
         let (refusal, rest) = split(bytes, ACCEPTED.to_le_bytes().len())?;
         let (place, rest) = split(rest, NO_PLACE.to_le_bytes().len())?;
+        let (offset, rest) = split(rest, NO_OFFSET.to_le_bytes().len())?;
         let verdict = Verdict {
             refusal: u32::from_le_bytes(refusal.try_into().ok()?),
             place: u64::from_le_bytes(place.try_into().ok()?),
+            offset: u64::from_le_bytes(offset.try_into().ok()?),
         };
         Some((verdict, rest))
     }
@@ -46,6 +52,7 @@ impl Verdict {
     pub fn bytes(self) -> Vec<u8> {
         let mut bytes = self.refusal.to_le_bytes().to_vec();
         bytes.extend(self.place.to_le_bytes());
+        bytes.extend(self.offset.to_le_bytes());
         bytes
     }
 
@@ -73,7 +80,12 @@ impl Verdict {
 
 impl fmt::Display for Verdict {
     fn fmt(&self, out: &mut fmt::Formatter) -> fmt::Result {
-        write!(out, "refusal {} and place {}", self.refusal, self.place)
+        let Verdict {
+            refusal,
+            place,
+            offset,
+        } = self;
+        write!(out, "refusal {refusal}, place {place} and offset {offset}")
     }
 }
 
@@ -82,49 +94,70 @@ mod tests {
     use super::*;
     use crate::refusal::Reason;
 
-    fn refused(reason: Reason, place: usize) -> Verdict {
-        Verdict::of::<()>(&Err(reason.at(place)))
+    fn refused(reason: Reason, place: usize, offset: u64) -> Verdict {
+        Verdict::of::<()>(&Err(reason.at(place).with_offset(offset)))
     }
 
     #[test]
-    fn verdict_has_twelve_bytes() {
-        let verdict = refused(Reason::BytesAfter, 0x0102);
-        assert_eq!(verdict.bytes(), [9, 0, 0, 0, 2, 1, 0, 0, 0, 0, 0, 0]);
-        assert_eq!(Verdict::of(&Ok(())).bytes(), [0; 12]);
+    fn verdict_has_twenty_bytes() {
+        let verdict = refused(Reason::BytesAfter, 0x0102, 0x0304_0506);
+        let expected = [
+            &[9, 0, 0, 0][..],
+            &[2, 1, 0, 0, 0, 0, 0, 0],
+            &[6, 5, 4, 3, 0, 0, 0, 0],
+        ];
+        assert_eq!(verdict.bytes(), expected.concat());
+        assert_eq!(Verdict::of(&Ok(())).bytes(), [0; 20]);
     }
 
     #[test]
     fn written_verdict_reads_back() {
-        let verdict = refused(Reason::EmissionWithoutInflow, 300);
+        let verdict = refused(Reason::EmissionWithoutInflow, 300, 7029);
         let bytes = [verdict.bytes(), vec![7, 8]].concat();
         assert_eq!(Verdict::first_in(&bytes), Some((verdict, &[7, 8][..])));
-        for length in 0..12 {
+        for length in 0..20 {
             assert_eq!(Verdict::first_in(&bytes[..length]), None);
         }
     }
 
     #[test]
     fn label_names_the_refusal() {
-        assert_eq!(refused(Reason::FileEnds, 7).label(), "R1");
-        assert_eq!(refused(Reason::SegmentTableShort, 5).label(), "R15");
+        assert_eq!(refused(Reason::FileEnds, 7, 9).label(), "R1");
+        assert_eq!(refused(Reason::SegmentTableShort, 5, 10).label(), "R15");
         assert_eq!(Verdict::of(&Ok(())).label(), "A");
     }
 
     #[test]
-    fn words_name_refusal_and_place() {
-        let verdict = refused(Reason::FileEnds, 7);
+    fn words_name_refusal_place_and_offset() {
+        let verdict = refused(Reason::FileEnds, 7, 9);
         assert_eq!(verdict.difference(verdict), None);
         assert_eq!(
             verdict.difference(Verdict::of(&Ok(()))).as_deref(),
-            Some("expected refusal 1 and place 7, came refusal 0 and place 0")
+            Some(
+                "expected refusal 1, place 7 and offset 9, \
+                 came refusal 0, place 0 and offset 0"
+            )
         );
         assert_eq!(
-            verdict.cut_short(11, 12),
-            "expected refusal 1 and place 7, came only 11 of 12 bytes"
+            verdict.cut_short(19, 20),
+            "expected refusal 1, place 7 and offset 9, came only 19 of 20 bytes"
         );
         assert_eq!(
-            verdict.cut_short(0, 12),
-            "expected refusal 1 and place 7, came no answer"
+            verdict.cut_short(0, 20),
+            "expected refusal 1, place 7 and offset 9, came no answer"
+        );
+    }
+
+    #[test]
+    fn offset_alone_makes_a_difference() {
+        let verdict = refused(Reason::FileEnds, 7, 9);
+        let other = refused(Reason::FileEnds, 7, 8);
+        assert_eq!(
+            verdict.difference(other).as_deref(),
+            Some(
+                "expected refusal 1, place 7 and offset 9, \
+                 came refusal 1, place 7 and offset 8"
+            )
         );
     }
 }

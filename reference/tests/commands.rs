@@ -43,7 +43,7 @@ fn frames_are_answered_line_by_line() {
         &[b'N', 7, 0, 0, 0, 0, 0, 0, 0, 0, 0, 0, 0],
     ];
     let output = run(&["answer", "numbers"], &frames.concat());
-    assert_eq!(text(&output.stdout), "N 300 3\nR 1 7\n");
+    assert_eq!(text(&output.stdout), "N 300 1 3\nR 1 7 0\n");
     assert_eq!(output.status.code(), Some(0));
 }
 
@@ -87,7 +87,7 @@ fn period_files_are_answered_line_by_line() {
     assert_eq!(
         text(&output.stdout),
         "A 1 2 2 2 10000 1 1000000 5001 1 900000 1 14900 2 6 14899 0 \
-         0 1 4 2000 350 1 1 3 101 2650\nR 1 0\nR 5 1\n"
+         0 1 4 2000 350 1 1 3 101 2650\nR 1 0 0\nR 5 1 1\n"
     );
     assert_eq!(output.status.code(), Some(0));
 }
@@ -106,8 +106,9 @@ fn period_file_cut_short_is_said() {
 
 #[test]
 fn calls_of_the_historian_are_answered_with_all_they_leave() {
-    // Refused: an empty file, tables of 3 and 2 bytes.
-    let refused = [0, 0, 0, 0, 3, 0, 0, 0, 2, 0, 0, 0];
+    // Refused: a plant that exports 300 kg and starts at no segment, tables of 3 and 2 bytes.
+    let file = [1, 1, 1, 0, 0xAC, 0x02, 0];
+    let refused = [&[7, 0, 0, 0, 3, 0, 0, 0, 2, 0, 0, 0][..], &file].concat();
     // Accepted: one plant without export and one store, each table with a spare byte.
     let file = [1, 1, 1, 0, 0, 1, 0, 6, 0, 0];
     let accepted = [&[10, 0, 0, 0, 65, 0, 0, 0, 41, 0, 0, 0][..], &file].concat();
@@ -117,8 +118,11 @@ fn calls_of_the_historian_are_answered_with_all_they_leave() {
     );
 
     let expected = [
-        &[1, 0, 0, 0, 0, 0, 0, 0, 0, 0, 0, 0, 90, 107, 124, 165, 194][..],
-        &[0; 12],
+        &[6, 0, 0, 0][..],
+        &[5, 0, 0, 0, 0, 0, 0, 0],
+        &[6, 0, 0, 0, 0, 0, 0, 0],
+        &[90, 107, 124, 165, 194],
+        &[0; 20],
         &[0; 64],
         &[154],
         &[0; 32],
@@ -131,20 +135,22 @@ fn calls_of_the_historian_are_answered_with_all_they_leave() {
 
 #[test]
 fn calls_for_sheets_are_answered_with_all_they_leave() {
-    // Refused: a count without its readings. Accepted: three days, two of them equal.
+    // Refused: one reading of three. Accepted: three days, two of them equal.
     let frames = [
-        &[1, 0, 0, 0, 0x03][..],
+        &[3, 0, 0, 0, 0x03, 0xAC, 0x02][..],
         &[5, 0, 0, 0, 0x03, 0xAC, 0x02, 0x09, 0x09],
     ];
     let output = run(&["answer", "historian-days"], &frames.concat());
     let expected = [
-        &[1, 0, 0, 0, 1, 0, 0, 0, 0, 0, 0, 0][..],
+        &[1, 0, 0, 0][..],
+        &[2, 0, 0, 0, 0, 0, 0, 0],
+        &[3, 0, 0, 0, 0, 0, 0, 0],
         &[0xB1; 8],
         &[0xB2; 8],
         &[0xB3; 8],
         &[0xB4; 8],
         &[0xB5; 8],
-        &[0; 12],
+        &[0; 20],
         &[62, 1, 0, 0, 0, 0, 0, 0],
         &[1, 0, 0, 0, 0, 0, 0, 0],
         &[0; 8],
@@ -158,18 +164,18 @@ fn calls_for_sheets_are_answered_with_all_they_leave() {
 #[test]
 fn program_agrees_with_itself() {
     for (what, suites) in [
-        ("numbers", 5),
-        ("readings", 11),
-        ("historian", 14),
-        ("historian-days", 14),
+        ("numbers", 6),
+        ("readings", 12),
+        ("historian", 15),
+        ("historian-days", 15),
     ] {
         let output = run(&["compare", what, "--", REFERENCE, "answer", what], &[]);
         assert_passed(&output, suites);
     }
     for (what, command, suites) in [
-        ("rows", "rows", 5),
-        ("inspections", "inspect", 10),
-        ("days", "days", 10),
+        ("rows", "rows", 6),
+        ("inspections", "inspect", 13),
+        ("days", "days", 11),
     ] {
         let output = run(&["compare", what, "--", REFERENCE, command], &[]);
         assert_passed(&output, suites);
@@ -189,7 +195,7 @@ fn program_that_answers_other_questions_fails() {
     let output = run(&other, &[]);
     let report = text(&output.stdout);
     assert!(report.contains("expected \"A 1 2 2 2 10000 "));
-    assert_eq!(report.lines().last(), Some("0 passed, 11 failed"));
+    assert_eq!(report.lines().last(), Some("0 passed, 12 failed"));
     assert_eq!(output.status.code(), Some(1));
 }
 
@@ -198,9 +204,9 @@ fn program_that_leaves_the_historian_without_answers_fails() {
     let other = ["compare", "historian", "--", REFERENCE, "rows"];
     let output = run(&other, &[]);
     let report = text(&output.stdout);
-    assert!(report.contains("expected refusal 0 and place 0, came only 6 of 220 bytes"));
+    assert!(report.contains("expected refusal 0, place 0 and offset 0, came only 8 of 228 bytes"));
     assert!(report.contains("case 2: bytes [], plant table of 128 bytes, "));
-    assert_eq!(report.lines().last(), Some("0 passed, 14 failed"));
+    assert_eq!(report.lines().last(), Some("0 passed, 15 failed"));
     assert_eq!(output.status.code(), Some(1));
 }
 
@@ -210,7 +216,7 @@ fn program_that_prints_on_standard_error_fails() {
     let output = run(&other, &[]);
     let report = text(&output.stdout);
     assert!(report.contains("standard error is not empty: \"a frame starts with the byte 0x01, "));
-    assert_eq!(report.lines().last(), Some("0 passed, 5 failed"));
+    assert_eq!(report.lines().last(), Some("0 passed, 6 failed"));
     assert_eq!(output.status.code(), Some(1));
 }
 
@@ -221,7 +227,7 @@ fn program_that_prints_other_than_the_page_fails() {
     let report = text(&output.stdout);
     assert!(report.contains("line 1: expected \"0 0 1 edition\", came \"P 1 10000 9931 "));
     assert!(report.contains("case 1: 65535 bytes [01 01 01 00 "));
-    assert_eq!(report.lines().last(), Some("0 passed, 10 failed"));
+    assert_eq!(report.lines().last(), Some("0 passed, 13 failed"));
     assert_eq!(output.status.code(), Some(1));
 }
 
@@ -232,7 +238,7 @@ fn program_that_prints_other_than_the_figures_fails() {
     let report = text(&output.stdout);
     assert!(report.contains("case 1: bytes [01 07]: line 1: expected \"7 0 0 1 1\", came "));
     assert!(report.contains("case 4: 65535 bytes [EE 02 80 D0 AC F3 0E "));
-    assert_eq!(report.lines().last(), Some("0 passed, 10 failed"));
+    assert_eq!(report.lines().last(), Some("0 passed, 11 failed"));
     assert_eq!(output.status.code(), Some(1));
 }
 
@@ -241,10 +247,10 @@ fn program_that_leaves_other_than_the_figures_fails() {
     let other = ["compare", "historian-days", "--", REFERENCE, "rows"];
     let output = run(&other, &[]);
     let report = text(&output.stdout);
-    assert!(
-        report.contains("bytes [01 07]: expected refusal 0 and place 0, came only 6 of 52 bytes")
-    );
-    assert_eq!(report.lines().last(), Some("0 passed, 14 failed"));
+    assert!(report.contains(
+        "bytes [01 07]: expected refusal 0, place 0 and offset 0, came only 8 of 60 bytes"
+    ));
+    assert_eq!(report.lines().last(), Some("0 passed, 15 failed"));
     assert_eq!(output.status.code(), Some(1));
 }
 
@@ -252,7 +258,7 @@ fn program_that_leaves_other_than_the_figures_fails() {
 fn figures_of_a_sheet_are_written() {
     let sheets = [
         (&[0x01, 0x07][..], "7 0 0 1 1\n"),
-        (&[0x06, 0x00, 0x00, 0x05, 0x05, 0xAC, 0x02], "R 1 6\n"),
+        (&[0x06, 0x00, 0x00, 0x05, 0x05, 0xAC, 0x02], "R 1 6 7\n"),
         (
             &[0x06, 0x00, 0x00, 0x05, 0x05, 0xAC, 0x02, 0x00],
             "310 1 1 2 3\n",
@@ -271,11 +277,11 @@ fn figures_of_a_sheet_are_written() {
 #[test]
 fn refusal_of_a_sheet_is_written() {
     let files = [
-        (&[][..], "R 1 0\n"),
-        (&[0x01, 0x80, 0x00], "R 2 1\n"),
-        (&[0x01, 0x80, 0x80, 0x80, 0x80, 0x80], "R 3 1\n"),
-        (&[0xEF, 0x02], "R 5 0\n"),
-        (&[0x01, 0x07, 0x80], "R 9 2\n"),
+        (&[][..], "R 1 0 0\n"),
+        (&[0x02, 0xAC, 0x02, 0x80, 0x00], "R 2 2 3\n"),
+        (&[0x01, 0x80, 0x80, 0x80, 0x80, 0x80], "R 3 1 1\n"),
+        (&[0xEF, 0x02], "R 5 0 0\n"),
+        (&[0x01, 0xAC, 0x02, 0x80], "R 9 2 3\n"),
     ];
     for (file, refusal) in files {
         let output = run(&["days"], file);
@@ -300,7 +306,11 @@ fn rows_of_an_accepted_file_are_written() {
 #[test]
 fn refusal_of_a_file_is_written() {
     let one_byte_more = [&WHOLE_PERIOD[..], &[0x80]].concat();
-    for (file, refusal) in [(&[][..], "R 1 0\n"), (&one_byte_more, "R 9 26\n")] {
+    for (file, refusal) in [
+        (&[][..], "R 1 0 0\n"),
+        (&WHOLE_PERIOD[..36], "R 1 25 35\n"),
+        (&one_byte_more, "R 9 26 37\n"),
+    ] {
         let output = run(&["rows"], file);
         assert_eq!(text(&output.stdout), refusal);
         assert_eq!(output.status.code(), Some(1));
@@ -322,14 +332,17 @@ fn page_of_a_file_is_written_to_its_end() {
 #[test]
 fn page_of_a_refused_file_has_the_refusal_before_its_last_line() {
     let pages = [
-        (&[][..], "R 1 0\nE 0 0\n"),
-        (&[0x80], "0 0 - edition\nR 1 0\nF 1 0\n"),
-        (&[0x02], "0 0 2 edition\nR 4 0\nE 1 1\n"),
+        (&[][..], "R 1 0 0\nE 0 0\n"),
+        (&[0x80], "0 0 - edition: 80 <--\nR 1 0 0\nF 1 0\n"),
+        (&[0x02], "0 0 2 edition <--\nR 4 0 0\nE 1 1\n"),
         (
             &[0x02, 0x80, 0x00],
-            "0 0 2 edition\n1 1 - plants\nR 4 0\nF 2 1\n",
+            "0 0 2 edition <--\n1 1 - plants: 80 00\nR 4 0 0\nF 2 1\n",
         ),
-        (&[0x80; 6], "0 0 - edition\nR 3 0\nF 3 0\n"),
+        (
+            &[0x80; 6],
+            "0 0 - edition: 80 80 80 80 80 <--\nR 3 0 0\nF 3 0\n",
+        ),
     ];
     for (file, page) in pages {
         let output = run(&["inspect"], file);
@@ -343,7 +356,7 @@ fn page_of_a_refused_file_has_the_refusal_before_its_last_line() {
 fn page_goes_on_after_the_last_number() {
     let output = run(&["inspect"], &[&WHOLE_PERIOD[..], &[0x80]].concat());
     let page = text(&output.stdout);
-    assert!(page.ends_with("\n26 37 - after the last number\nR 9 26\nF 1 26\n"));
+    assert!(page.ends_with("\n26 37 - after the last number: 80 <--\nR 9 26 37\nF 1 26\n"));
     assert_eq!(page.lines().count(), 29);
     assert_eq!(output.status.code(), Some(1));
 }
@@ -354,7 +367,7 @@ fn page_does_not_look_at_the_accounts() {
     let mut file = WHOLE_PERIOD;
     file[17] = 0x9A;
     file[18] = 0x75;
-    assert_eq!(text(&run(&["rows"], &file).stdout), "R 12 1\n");
+    assert_eq!(text(&run(&["rows"], &file).stdout), "R 12 1 37\n");
     let output = run(&["inspect"], &file);
     let page = text(&output.stdout);
     assert!(page.contains("\n11 17 15002 segment 1 metered outflow\n"));
@@ -366,7 +379,8 @@ fn page_does_not_look_at_the_accounts() {
 fn page_of_a_file_that_is_cut_says_so() {
     let output = run(&["inspect"], &[0x01; 65_536]);
     let page = text(&output.stdout);
-    assert!(page.ends_with("\n65534 65534 1 after the last number\nR 7 9\nC 65535 65535\n"));
+    assert!(page.contains("\n9 9 1 segment 1 next segment <--\n"));
+    assert!(page.ends_with("\n65534 65534 1 after the last number\nR 7 9 9\nC 65535 65535\n"));
     assert_eq!(text(&output.stderr), "");
     assert_eq!(output.status.code(), Some(2));
 }
@@ -381,9 +395,9 @@ fn cases_of_periods_are_written_one_to_a_line() {
         " A 10000 9931 69 9931 879 9052 9 0 5001 4968 33 4471 90 4381 4 0 | \
          15001 14900 101 268 3 14900 14899 1 0 3"
     ));
-    assert_eq!(lines[1], "16 10 - R 1 0");
-    assert_eq!(lines[3], "16 10 8000 R 2 0");
-    assert!(lines[14].ends_with(" R 14 16"));
+    assert_eq!(lines[1], "16 10 - R 1 0 0");
+    assert_eq!(lines[3], "16 10 8000 R 2 0 0");
+    assert!(lines[14].ends_with(" R 14 16 37"));
     assert_eq!(output.status.code(), Some(0));
 
     let none = run(&["cases", "periods", "7", "0"], &[]);
@@ -397,8 +411,8 @@ fn cases_of_sheets_are_written_one_to_a_line() {
     assert_eq!(lines.len(), 100);
     assert_eq!(lines[0], "0107 A 7 0 0 1 1");
     assert_eq!(lines[12], "050304040303 A 17 2 0 2 2");
-    assert!(lines.contains(&"- R 1 0"));
-    assert!(lines.contains(&"010580 R 9 2"));
+    assert!(lines.contains(&"- R 1 0 0"));
+    assert!(lines.contains(&"010580 R 9 2 2"));
     let year = |line: &&&str| line.starts_with("EE02") && line.contains(" A ");
     assert!(lines.iter().filter(year).count() > 0);
     assert_eq!(output.status.code(), Some(0));
@@ -413,7 +427,7 @@ fn program_that_answers_nothing_fails_every_suite() {
     let report = text(&output.stdout);
     assert!(report.contains("too few answers: 0 for 65792 cases"));
     assert!(report.contains("the program ended with"));
-    assert_eq!(report.lines().last(), Some("0 passed, 5 failed"));
+    assert_eq!(report.lines().last(), Some("0 passed, 6 failed"));
     assert_eq!(output.status.code(), Some(1));
 }
 
@@ -487,4 +501,5 @@ fn usage_names_every_command() {
     ] {
         assert!(usage.contains(command), "{command}");
     }
+    assert!(usage.contains("a refusal is printed in one line: R, its number, its place, and "));
 }

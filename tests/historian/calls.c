@@ -1,6 +1,6 @@
 /* calls [guarded]: calls steeplecuff_quantify as the historian does and checks every byte of what comes back: for the
-   worked period and its changes (rule 13.11), tables of many lengths, and the longest file. Prints a line for each call,
-   begun before it is made, so that the last line shows where the program died; then 'N passed, M failed'. */
+   worked period and its changes (rule 13.11), tables of many lengths, every cut, and the longest file. Prints a line for
+   each call, begun before it is made, so that the last line shows where the program died; then 'N passed, M failed'. */
 #include <stdio.h>
 #include <string.h>
 
@@ -14,7 +14,8 @@ enum { PLANTS = 2, SEGMENTS = 2 }; /* of the worked period, from which all accep
 enum { PLANT_ENTRIES = PLANTS * STEEPLECUFF_PLANT_NUMBERS, SEGMENT_ENTRIES = SEGMENTS * STEEPLECUFF_SEGMENT_NUMBERS };
 enum { PLANT_BYTES = PLANT_ENTRIES * STEEPLECUFF_NUMBER_BYTES, SEGMENT_BYTES = SEGMENT_ENTRIES * STEEPLECUFF_NUMBER_BYTES };
 enum { NUMBER = STEEPLECUFF_NUMBER_BYTES, BYTE_BITS = 8 };
-enum { MOST_EDITS = 4, EXTRA_BYTES = 1 };
+enum { MOST_EDITS = 4, EXTRA_BYTES = 1, MOST_CASE_BYTES = 13, NAME_BYTES = 80 };
+enum { WHOLE_BYTES = 37 }; /* the length of the worked period */
 
 struct rows {
     uint64_t plants[PLANT_ENTRIES];
@@ -22,9 +23,19 @@ struct rows {
 };
 
 struct expected {
-    uint32_t refusal;
-    uint64_t place;
+    struct answer answer;
     const struct rows *rows; /* NULL if the file is refused */
+};
+
+/* The worked period with some of its numbers changed. */
+struct edited {
+    const char *name;
+    size_t edits;
+    struct {
+        size_t at;
+        uint32_t number;
+    } edit[MOST_EDITS];
+    struct expected expected;
 };
 
 struct bytes {
@@ -90,60 +101,91 @@ static void check(const char *name, struct bytes file, struct lengths lengths, s
 {
     check_begin(name);
     const char *changed = one_call_make(&call, file.at, file.len, lengths.plants, lengths.segments);
-    check_end(all_stayed(changed) && answer_is(call.refusal, call.place, expected.refusal, expected.place) &&
-              tables_are(expected.rows));
+    struct answer answer = {call.refusal, call.place, call.offset};
+    check_end(all_stayed(changed) && answer_is(answer, expected.answer) && tables_are(expected.rows));
     one_call_end(&call);
 }
 
-/* The proved cases that are given as bytes. */
+/* The same with a refusal, on tables of the exact lengths. */
+static void check_refused(const char *name, const uint8_t *file, size_t len, struct answer answer)
+{
+    check(name, (struct bytes){file, len}, exact, (struct expected){answer, NULL});
+}
+
+/* The proved cases that are given as bytes; then faults of a number behind others of one and two bytes. */
 static void check_bytes(void)
 {
     static const struct {
         const char *name;
-        uint8_t bytes[MOST_NUMBER_BYTES];
+        uint8_t bytes[MOST_CASE_BYTES];
         size_t len;
-        struct expected expected;
+        struct answer answer;
     } cases[] = {
-        {"empty file", {0}, 0, {1, 0, NULL}},
-        {"byte 01 alone", {0x01}, 1, {1, 1, NULL}},
-        {"bytes 80 00", {0x80, 0x00}, 2, {2, 0, NULL}},
-        {"bytes 81 D0 AC F3 0E", {0x81, 0xD0, 0xAC, 0xF3, 0x0E}, 5, {3, 0, NULL}},
-        {"byte 02 alone", {0x02}, 1, {4, 0, NULL}},
-        {"bytes 01 00", {0x01, 0x00}, 2, {5, 1, NULL}},
+        {"empty file", {0}, 0, {1, 0, 0}},
+        {"byte 01 alone", {0x01}, 1, {1, 1, 1}},
+        {"bytes 80 00", {0x80, 0x00}, 2, {2, 0, 0}},
+        {"bytes 81 D0 AC F3 0E", {0x81, 0xD0, 0xAC, 0xF3, 0x0E}, 5, {3, 0, 0}},
+        {"byte 02 alone", {0x02}, 1, {4, 0, 0}},
+        {"bytes 01 00", {0x01, 0x00}, 2, {5, 1, 1}},
+        {"an end before a fraction", {1, 1, 1, 0, 0x90, 0x4E, 1}, 7, {1, 6, 7}},
+        {"an end inside a fraction", {1, 1, 1, 0, 0x90, 0x4E, 1, 0xC0, 0x84}, 9, {1, 6, 7}},
+        {"a fraction that is not shortest", {1, 1, 1, 0, 0x90, 0x4E, 1, 0xC0, 0x84, 0x00}, 10, {2, 6, 7}},
+        {"a fraction of 4000000001", {1, 1, 1, 0, 0x90, 0x4E, 1, 0x81, 0xD0, 0xAC, 0xF3, 0x0E}, 12, {3, 6, 7}},
+        {"a fraction of six groups", {1, 1, 1, 0, 0x90, 0x4E, 1, 0x80, 0x80, 0x80, 0x80, 0x80, 0x01}, 13, {3, 6, 7}},
     };
     for (size_t i = 0; i < sizeof cases / sizeof cases[0]; i++)
-        check(cases[i].name, (struct bytes){cases[i].bytes, cases[i].len}, exact, cases[i].expected);
+        check_refused(cases[i].name, cases[i].bytes, cases[i].len, cases[i].answer);
+}
+
+/* Puts the worked period with its changes to the call. */
+static void check_edited(const struct edited *edited)
+{
+    uint32_t numbers[WHOLE_PERIOD_NUMBERS];
+    uint8_t file[WHOLE_PERIOD_NUMBERS * MOST_NUMBER_BYTES];
+    memcpy(numbers, whole_period, sizeof numbers);
+    for (size_t edit = 0; edit < edited->edits; edit++)
+        numbers[edited->edit[edit].at] = edited->edit[edit].number;
+    size_t len = put_numbers(file, numbers, WHOLE_PERIOD_NUMBERS);
+    check(edited->name, (struct bytes){file, len}, exact, edited->expected);
 }
 
 /* The proved cases that change figures of the worked period (rule 13.11). */
 static void check_edits(void)
 {
-    static const struct {
-        const char *name;
-        size_t edits;
-        struct {
-            size_t at;
-            uint32_t number;
-        } edit[MOST_EDITS];
-        struct expected expected;
-    } cases[] = {
-        {"second kind 5", 1, {{SECOND_KIND, 5}}, {7, 15, NULL}},
-        {"first line 4000000000 x 1000", 2, {{FIRST_QUANTITY, 4000000000}, {FIRST_FACTOR, 1000}}, {0, 0, &most_grams_rows}},
-        {"first line 4000000000 x 1001", 2, {{FIRST_QUANTITY, 4000000000}, {FIRST_FACTOR, 1001}}, {10, 1, NULL}},
-        {"first outflow 15001", 1, {{FIRST_OUTFLOW, 15001}}, {0, 0, &no_loss_rows}},
-        {"first outflow 15002", 1, {{FIRST_OUTFLOW, 15002}}, {12, 1, NULL}},
+    static const struct edited cases[] = {
+        {"second kind 5", 1, {{SECOND_KIND, 5}}, {{7, 15, 23}, NULL}},
+        {"first line 4000000000 x 1000", 2,
+         {{FIRST_QUANTITY, 4000000000}, {FIRST_FACTOR, 1000}}, {{0, 0, 0}, &most_grams_rows}},
+        {"first line 4000000000 x 1001", 2, {{FIRST_QUANTITY, 4000000000}, {FIRST_FACTOR, 1001}}, {{10, 1, 24}, NULL}},
+        {"first outflow 15001", 1, {{FIRST_OUTFLOW, 15001}}, {{0, 0, 0}, &no_loss_rows}},
+        {"first outflow 15002", 1, {{FIRST_OUTFLOW, 15002}}, {{12, 1, WHOLE_BYTES}, NULL}},
         {"nothing exported, nothing metered", 4,
-         {{FIRST_EXPORTED, 0}, {SECOND_EXPORTED, 0}, {FIRST_OUTFLOW, 0}, {SECOND_OUTFLOW, 0}}, {13, 1, NULL}},
+         {{FIRST_EXPORTED, 0}, {SECOND_EXPORTED, 0}, {FIRST_OUTFLOW, 0}, {SECOND_OUTFLOW, 0}},
+         {{13, 1, WHOLE_BYTES - 4}, NULL}},
     };
-    for (size_t i = 0; i < sizeof cases / sizeof cases[0]; i++) {
-        uint32_t numbers[WHOLE_PERIOD_NUMBERS];
-        uint8_t file[WHOLE_PERIOD_NUMBERS * MOST_NUMBER_BYTES];
-        memcpy(numbers, whole_period, sizeof numbers);
-        for (size_t edit = 0; edit < cases[i].edits; edit++)
-            numbers[cases[i].edit[edit].at] = cases[i].edit[edit].number;
-        size_t len = put_numbers(file, numbers, WHOLE_PERIOD_NUMBERS);
-        check(cases[i].name, (struct bytes){file, len}, exact, cases[i].expected);
-    }
+    for (size_t i = 0; i < sizeof cases / sizeof cases[0]; i++)
+        check_edited(&cases[i]);
+}
+
+/* Further changes, so that each refusal is met behind numbers of several bytes, or if it has none before it, at one.
+   Line 2 begins at byte 31, or at 34 if line 1 is three bytes longer. */
+static void check_offsets(void)
+{
+    static const struct edited cases[] = {
+        {"edition 300", 1, {{THE_EDITION, 300}}, {{4, 0, 0}, NULL}},
+        {"513 lines", 1, {{THE_LINES, 513}}, {{5, 3, 3}, NULL}},
+        {"first plant enters at segment 3", 1, {{FIRST_ENTRY, 3}}, {{6, 5, 6}, NULL}},
+        {"second fraction 1000001", 1, {{SECOND_FRACTION, 1000001}}, {{6, 9, 13}, NULL}},
+        {"second kind 7", 1, {{SECOND_KIND, 7}}, {{7, 13, 20}, NULL}},
+        {"second factor 1000000001", 1, {{SECOND_FACTOR, 1000000001}}, {{8, 25, 35}, NULL}},
+        {"second line 4000000000 x 1001", 2, {{SECOND_QUANTITY, 4000000000}, {SECOND_FACTOR, 1001}}, {{10, 2, 31}, NULL}},
+        {"two lines of plant 1 together over the limit", 3,
+         {{FIRST_QUANTITY, 4000000000}, {FIRST_FACTOR, 1000}, {SECOND_OWNER_KIND, 0}}, {{10, 2, 34}, NULL}},
+        {"first export 4000000000", 1, {{FIRST_EXPORTED, 4000000000}}, {{11, 1, WHOLE_BYTES + 3}, NULL}},
+        {"second outflow 14901", 1, {{SECOND_OUTFLOW, 14901}}, {{12, 2, WHOLE_BYTES}, NULL}},
+    };
+    for (size_t i = 0; i < sizeof cases / sizeof cases[0]; i++)
+        check_edited(&cases[i]);
 }
 
 /* The worked period with tables of many lengths, and with one byte more behind it. */
@@ -154,19 +196,20 @@ static void check_lengths(void)
         struct lengths lengths;
         struct expected expected;
     } cases[] = {
-        {"whole period", {PLANT_BYTES, SEGMENT_BYTES}, {0, 0, &whole_rows}},
-        {"the largest tables", {STEEPLECUFF_MOST_PLANT_BYTES, STEEPLECUFF_MOST_SEGMENT_BYTES}, {0, 0, &whole_rows}},
-        {"one later entry", {PLANT_BYTES + NUMBER, SEGMENT_BYTES + NUMBER}, {0, 0, &whole_rows}},
-        {"one spare byte", {PLANT_BYTES + 1, SEGMENT_BYTES + 1}, {0, 0, &whole_rows}},
-        {"a later entry and seven spare bytes", {PLANT_BYTES + 2 * NUMBER - 1, SEGMENT_BYTES + 2 * NUMBER - 1}, {0, 0, &whole_rows}},
-        {"a plant table one number short", {PLANT_BYTES - NUMBER, SEGMENT_BYTES}, {14, 16, NULL}},
-        {"plant table one byte short", {PLANT_BYTES - 1, SEGMENT_BYTES}, {14, 16, NULL}},
-        {"plant table empty", {0, SEGMENT_BYTES}, {14, 16, NULL}},
-        {"segment table one number short", {PLANT_BYTES, SEGMENT_BYTES - NUMBER}, {15, 10, NULL}},
-        {"segment table one byte short", {PLANT_BYTES, SEGMENT_BYTES - 1}, {15, 10, NULL}},
-        {"segment table empty", {PLANT_BYTES, 0}, {15, 10, NULL}},
-        {"both tables one number short", {PLANT_BYTES - NUMBER, SEGMENT_BYTES - NUMBER}, {14, 16, NULL}},
-        {"both tables empty", {0, 0}, {14, 16, NULL}},
+        {"whole period", {PLANT_BYTES, SEGMENT_BYTES}, {{0, 0, 0}, &whole_rows}},
+        {"the largest tables", {STEEPLECUFF_MOST_PLANT_BYTES, STEEPLECUFF_MOST_SEGMENT_BYTES}, {{0, 0, 0}, &whole_rows}},
+        {"one later entry", {PLANT_BYTES + NUMBER, SEGMENT_BYTES + NUMBER}, {{0, 0, 0}, &whole_rows}},
+        {"one spare byte", {PLANT_BYTES + 1, SEGMENT_BYTES + 1}, {{0, 0, 0}, &whole_rows}},
+        {"a later entry and seven spare bytes",
+         {PLANT_BYTES + 2 * NUMBER - 1, SEGMENT_BYTES + 2 * NUMBER - 1}, {{0, 0, 0}, &whole_rows}},
+        {"a plant table one number short", {PLANT_BYTES - NUMBER, SEGMENT_BYTES}, {{14, 16, WHOLE_BYTES}, NULL}},
+        {"plant table one byte short", {PLANT_BYTES - 1, SEGMENT_BYTES}, {{14, 16, WHOLE_BYTES}, NULL}},
+        {"plant table empty", {0, SEGMENT_BYTES}, {{14, 16, WHOLE_BYTES}, NULL}},
+        {"segment table one number short", {PLANT_BYTES, SEGMENT_BYTES - NUMBER}, {{15, 10, WHOLE_BYTES}, NULL}},
+        {"segment table one byte short", {PLANT_BYTES, SEGMENT_BYTES - 1}, {{15, 10, WHOLE_BYTES}, NULL}},
+        {"segment table empty", {PLANT_BYTES, 0}, {{15, 10, WHOLE_BYTES}, NULL}},
+        {"both tables one number short", {PLANT_BYTES - NUMBER, SEGMENT_BYTES - NUMBER}, {{14, 16, WHOLE_BYTES}, NULL}},
+        {"both tables empty", {0, 0}, {{14, 16, WHOLE_BYTES}, NULL}},
     };
     uint8_t file[WHOLE_PERIOD_NUMBERS * MOST_NUMBER_BYTES + EXTRA_BYTES];
     size_t len = put_numbers(file, whole_period, WHOLE_PERIOD_NUMBERS);
@@ -174,9 +217,26 @@ static void check_lengths(void)
         check(cases[i].name, (struct bytes){file, len}, cases[i].lengths, cases[i].expected);
 
     file[len] = 0;
-    struct expected bytes_after = {9, WHOLE_PERIOD_NUMBERS, NULL};
+    struct expected bytes_after = {{9, WHOLE_PERIOD_NUMBERS, WHOLE_BYTES}, NULL};
     check("the worked period with a byte behind it", (struct bytes){file, len + EXTRA_BYTES}, exact, bytes_after);
     check("one byte more, both tables empty", (struct bytes){file, len + EXTRA_BYTES}, (struct lengths){0, 0}, bytes_after);
+}
+
+/* Every cut of the worked period: the place is how many numbers are whole, the offset is where the next one begins. */
+static void check_cuts(void)
+{
+    uint8_t file[WHOLE_PERIOD_NUMBERS * MOST_NUMBER_BYTES];
+    size_t whole_len = put_numbers(file, whole_period, WHOLE_PERIOD_NUMBERS);
+    struct answer answer = {STEEPLECUFF_REFUSED_FILE_ENDS, 0, 0};
+    for (size_t len = 0; len < whole_len; len++) {
+        char name[NAME_BYTES];
+        snprintf(name, sizeof name, "the first %zu of %zu bytes", len, whole_len);
+        check_refused(name, file, len, answer);
+        if ((file[len] & MORE_FOLLOW) == 0) {
+            answer.place++;
+            answer.offset = len + 1;
+        }
+    }
 }
 
 /* The longest file, with every count and every field at its largest: its length is the limit in steeplecuff.h. It is read
@@ -198,12 +258,14 @@ static void check_longest(void)
         len += put_numbers(file + len, plant, PLANT);
     for (int i = 0; i < STEEPLECUFF_MOST_SEGMENTS; i++)
         len += put_numbers(file + len, store, SEGMENT);
+    size_t first_line = len;
     for (int i = 0; i < STEEPLECUFF_MOST_LINES; i++)
         len += put_numbers(file + len, line, LINE);
+    size_t last_number = len - MOST_NUMBER_BYTES;
     check_length("the longest file has the header's length", len, STEEPLECUFF_MOST_FILE_BYTES);
-    check("the longest file", (struct bytes){file, len}, exact, (struct expected){10, 1, NULL});
-    check("the longest file less a byte", (struct bytes){file, len - 1}, exact, (struct expected){1, NUMBERS - 1, NULL});
-    check("the longest file and one byte more", (struct bytes){file, len + EXTRA_BYTES}, exact, (struct expected){9, NUMBERS, NULL});
+    check_refused("the longest file", file, len, (struct answer){10, 1, first_line});
+    check_refused("the longest file less a byte", file, len - 1, (struct answer){1, NUMBERS - 1, last_number});
+    check_refused("the longest file and one byte more", file, len + EXTRA_BYTES, (struct answer){9, NUMBERS, len});
 }
 
 int main(int argc, char **argv)
@@ -211,7 +273,9 @@ int main(int argc, char **argv)
     call = one_call_on(block_kind_asked(argc, argv));
     check_bytes();
     check_edits();
+    check_offsets();
     check_lengths();
+    check_cuts();
     check_longest();
     return checks_done();
 }

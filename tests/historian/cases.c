@@ -57,10 +57,11 @@ static void write_in(size_t bytes, uint64_t number)
         putchar((int)(number >> (BYTE_BITS * i) & BYTE_MASK));
 }
 
-void write_refusal(uint32_t refusal, uint64_t place)
+void write_refusal(uint32_t refusal, uint64_t place, uint64_t offset)
 {
     write_in(REFUSAL_BYTES, refusal);
-    write_in(NUMBER_BYTES, place);
+    write_number(place);
+    write_number(offset);
 }
 
 void write_number(uint64_t number)

@@ -15,8 +15,8 @@ void read_bytes(struct block *block, size_t len);
 /* Exits with 1 if a call changed what it must leave alone; `changed` says what, or is NULL. */
 void end_where_changed(const char *changed);
 
-/* Writes what begins every answer: the refusal in four bytes and its place in eight. */
-void write_refusal(uint32_t refusal, uint64_t place);
+/* Writes what begins every answer: the refusal in four bytes, its place in eight and its offset in eight. */
+void write_refusal(uint32_t refusal, uint64_t place, uint64_t offset);
 
 /* Writes a number in eight bytes. */
 void write_number(uint64_t number);

@@ -18,12 +18,20 @@ bool all_stayed(const char *changed)
     return changed == NULL;
 }
 
-bool answer_is(uint32_t refusal, uint64_t place, uint32_t refusal_due, uint64_t place_due)
+static void print_answer(struct answer answer)
 {
-    if (refusal == refusal_due && place == place_due)
+    printf("%" PRIu32 " at %" PRIu64 ", byte %" PRIu64, answer.refusal, answer.place, answer.offset);
+}
+
+bool answer_is(struct answer answer, struct answer due)
+{
+    if (answer.refusal == due.refusal && answer.place == due.place && answer.offset == due.offset)
         return true;
-    printf("FAILED, it is %" PRIu32 " at %" PRIu64 " and should be %" PRIu32 " at %" PRIu64 "\n", refusal, place,
-           refusal_due, place_due);
+    printf("FAILED, it is ");
+    print_answer(answer);
+    printf(" and should be ");
+    print_answer(due);
+    putchar('\n');
     return false;
 }
 

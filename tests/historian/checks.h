@@ -6,14 +6,20 @@
 #include <stddef.h>
 #include <stdint.h>
 
+/* What a call answers: a refusal, or 0, with its place and its offset. */
+struct answer {
+    uint32_t refusal;
+    uint64_t place, offset;
+};
+
 /* Prints the name at once, so that the last line shows where a program died. */
 void check_begin(const char *name);
 
 /* Whether a call left alone what it must: `changed` is NULL then, else it says in words what changed, which is printed. */
 bool all_stayed(const char *changed);
 
-/* Whether the refusal and its place are the expected ones; if they are not, prints both. */
-bool answer_is(uint32_t refusal, uint64_t place, uint32_t refusal_due, uint64_t place_due);
+/* Whether the answer is the one that is due; if it is not, prints both. */
+bool answer_is(struct answer answer, struct answer due);
 
 /* Ends the check and counts it. If it is not right, what is wrong was printed before, after 'FAILED, '. */
 void check_end(bool right);

@@ -4,8 +4,8 @@
 
 #include "steeplecuff.h"
 
-/* Neither 0, which acceptance sets, nor a place of any fault. */
-static const uint64_t place_before = UINT64_C(0xA5A5A5A5A5A5A5A5);
+/* Neither 0, which acceptance sets, nor a place or an offset of any fault. */
+static const uint64_t place_before = UINT64_C(0xA5A5A5A5A5A5A5A5), offset_before = UINT64_C(0xA6A6A6A6A6A6A6A6);
 
 enum { PLANT_STEP = 17, PLANT_START = 90, SEGMENT_STEP = 29, SEGMENT_START = 165 };
 
@@ -39,8 +39,9 @@ const char *one_call_make(struct one_call *call, const uint8_t *file, size_t fil
     take_table(&call->plants, plants_len, plant_byte_before);
     take_table(&call->segments, segments_len, segment_byte_before);
     call->place = place_before;
+    call->offset = offset_before;
     call->refusal = steeplecuff_quantify(call->file.bytes, file_len, call->plants.bytes, plants_len,
-                                         call->segments.bytes, segments_len, &call->place);
+                                         call->segments.bytes, segments_len, &call->place, &call->offset);
     if (memcmp(call->file.bytes, file, file_len) != 0)
         return "the file's bytes changed";
     if (!block_front_stayed(&call->file))

@@ -7,7 +7,7 @@
 struct one_call {
     struct block file, plants, segments;
     uint32_t refusal;
-    uint64_t place;
+    uint64_t place, offset;
 };
 
 /* Byte `i` of a table before the call. */

@@ -1,5 +1,5 @@
-/* One call of steeplecuff_days on blocks of exactly the needed lengths: one for the sheet, one for each figure and one
-   for the place. */
+/* One call of steeplecuff_days on blocks of exactly the needed lengths: one for the sheet, one for each figure, one for
+   the place and one for the offset. */
 #ifndef ONE_SHEET_H
 #define ONE_SHEET_H
 
@@ -8,9 +8,9 @@
 enum figure { FIGURE_SUM, FIGURE_REPEATED, FIGURE_REPEATED_ZERO, FIGURE_LONGEST, FIGURE_FIRST, FIGURES };
 
 struct one_sheet {
-    struct block sheet_block, place_block, figure_blocks[FIGURES];
+    struct block sheet_block, place_block, offset_block, figure_blocks[FIGURES];
     uint32_t refusal;
-    uint64_t place, figures[FIGURES]; /* after the call */
+    uint64_t place, offset, figures[FIGURES]; /* after the call */
 };
 
 /* A figure before the call: eight bytes B1 for the first, B2 for the second and so on. */

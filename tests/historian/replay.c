@@ -1,9 +1,9 @@
 /* replay [guarded]: puts many cases to steeplecuff_quantify in one run, for a comparison with another program.
    A case on standard input: the lengths of file, plant table and segment table in bytes, four bytes each, least
-   significant first; then the file. An answer on standard output: refusal (four bytes), place (eight bytes), then the
-   plant table and the segment table, as they are after the call. Each answer is sent at once, so that their count shows
-   in which case the program died. Exits with 1 if a call changed what it must leave alone, with 2 if it was not given
-   whole cases. */
+   significant first; then the file. An answer on standard output: refusal (four bytes), place (eight bytes), offset
+   (eight bytes), then the plant table and the segment table, as they are after the call. Each answer is sent at once, so
+   that their count shows in which case the program died. Exits with 1 if a call changed what it must leave alone, with 2
+   if it was not given whole cases. */
 #include <stdio.h>
 
 #include "cases.h"
@@ -13,7 +13,7 @@ enum { FILE_LENGTH, PLANTS_LENGTH, SEGMENTS_LENGTH, LENGTHS };
 
 static void write_answer(const struct one_call *call)
 {
-    write_refusal(call->refusal, call->place);
+    write_refusal(call->refusal, call->place, call->offset);
     fwrite(call->plants.bytes, 1, call->plants.len, stdout);
     fwrite(call->segments.bytes, 1, call->segments.len, stdout);
     send_answer();

@@ -13,8 +13,7 @@ enum { YEAR = STEEPLECUFF_MOST_DAYS, MOST_WORKED_DAYS = 13, MOST_FAULT_BYTES = 6
 #define LARGEST UINT32_C(4000000000)
 
 struct expected {
-    uint32_t refusal;
-    uint64_t place;
+    struct answer answer;
     const uint64_t *figures; /* NULL if the sheet is refused: then they are as they were */
 };
 
@@ -44,13 +43,13 @@ static void check(const char *name, const uint8_t *sheet, size_t len, struct exp
 {
     check_begin(name);
     const char *changed = one_sheet_make(&call, sheet, len);
-    check_end(all_stayed(changed) && answer_is(call.refusal, call.place, expected.refusal, expected.place) &&
-              figures_are(expected.figures));
+    struct answer answer = {call.refusal, call.place, call.offset};
+    check_end(all_stayed(changed) && answer_is(answer, expected.answer) && figures_are(expected.figures));
 }
 
-static void check_refused(const char *name, const uint8_t *sheet, size_t len, uint32_t refusal, uint64_t place)
+static void check_refused(const char *name, const uint8_t *sheet, size_t len, struct answer answer)
 {
-    check(name, sheet, len, (struct expected){refusal, place, NULL});
+    check(name, sheet, len, (struct expected){answer, NULL});
 }
 
 static void put(struct sheet *sheet, const uint32_t *numbers, size_t count)
@@ -69,7 +68,7 @@ static struct sheet sheet_of(const uint32_t *readings, uint32_t days)
 static void check_accepted(const char *name, const uint32_t *readings, uint32_t days, const uint64_t *figures)
 {
     struct sheet sheet = sheet_of(readings, days);
-    check(name, sheet.bytes, sheet.len, (struct expected){STEEPLECUFF_ACCEPTED, 0, figures});
+    check(name, sheet.bytes, sheet.len, (struct expected){{STEEPLECUFF_ACCEPTED, 0, 0}, figures});
 }
 
 /* Small sheets; the figures are worked by hand. */
@@ -155,12 +154,13 @@ static void check_numbers(void)
             struct sheet sheet = {.len = 0};
             char name[NAME_BYTES];
             put(&sheet, numbers, place);
+            struct answer answer = {faults[i].refusal, place, sheet.len};
             memcpy(sheet.bytes + sheet.len, faults[i].bytes, faults[i].len);
             sheet.len += faults[i].len;
             if (faults[i].refusal != STEEPLECUFF_REFUSED_FILE_ENDS)
                 put(&sheet, numbers + place + 1, NUMBERS - place - 1);
             snprintf(name, sizeof name, "%s at number %zu", faults[i].name, place);
-            check_refused(name, sheet.bytes, sheet.len, faults[i].refusal, place);
+            check_refused(name, sheet.bytes, sheet.len, answer);
         }
 }
 
@@ -171,42 +171,46 @@ static void check_bytes(void)
         const char *name;
         uint8_t bytes[MOST_FAULT_BYTES];
         size_t len;
-        uint32_t refusal;
-        uint64_t place;
+        struct answer answer;
     } cases[] = {
-        {"an empty sheet", {0}, 0, 1, 0},
-        {"count 0", {0x00}, 1, 5, 0},
-        {"count 0 and a byte", {0x00, 0x07}, 2, 5, 0},
-        {"count 0 and a number that is not shortest", {0x00, 0x80, 0x00}, 3, 5, 0},
-        {"count 1 alone", {0x01}, 1, 1, 1},
-        {"count 366 alone", {0xEE, 0x02}, 2, 1, 1},
-        {"count 367 alone", {0xEF, 0x02}, 2, 5, 0},
-        {"count 367 and a number that is not shortest", {0xEF, 0x02, 0x80, 0x00}, 4, 5, 0},
-        {"count 65537, whose lower half is 1", {0x81, 0x80, 0x04, 0x07}, 4, 5, 0},
-        {"count 4000000000", {0x80, 0xD0, 0xAC, 0xF3, 0x0E}, 5, 5, 0},
-        {"a day and a zero byte", {0x01, 0x07, 0x00}, 3, 9, 2},
-        {"a day and a byte of a number that goes on", {0x01, 0x07, 0x80}, 3, 9, 2},
-        {"a day and a number that is not shortest", {0x01, 0x07, 0x80, 0x00}, 4, 9, 2},
-        {"three days and a fourth reading", {0x03, 0x01, 0x02, 0x03, 0x04}, 5, 9, 4},
-        {"two readings at fault", {0x02, 0x80, 0x00, 0x80}, 4, 2, 1},
-        {"the last reading at fault and a byte after it", {0x01, 0x80, 0x00, 0x07}, 4, 2, 1},
+        {"an empty sheet", {0}, 0, {1, 0, 0}},
+        {"count 0", {0x00}, 1, {5, 0, 0}},
+        {"count 0 and a byte", {0x00, 0x07}, 2, {5, 0, 0}},
+        {"count 0 and a number that is not shortest", {0x00, 0x80, 0x00}, 3, {5, 0, 0}},
+        {"count 1 alone", {0x01}, 1, {1, 1, 1}},
+        {"count 366 alone", {0xEE, 0x02}, 2, {1, 1, 2}},
+        {"count 367 alone", {0xEF, 0x02}, 2, {5, 0, 0}},
+        {"count 367 and a number that is not shortest", {0xEF, 0x02, 0x80, 0x00}, 4, {5, 0, 0}},
+        {"count 65537, whose lower half is 1", {0x81, 0x80, 0x04, 0x07}, 4, {5, 0, 0}},
+        {"count 4000000000", {0x80, 0xD0, 0xAC, 0xF3, 0x0E}, 5, {5, 0, 0}},
+        {"a day and a zero byte", {0x01, 0x07, 0x00}, 3, {9, 2, 2}},
+        {"a day and a byte of a number that goes on", {0x01, 0x07, 0x80}, 3, {9, 2, 2}},
+        {"a day and a number that is not shortest", {0x01, 0x07, 0x80, 0x00}, 4, {9, 2, 2}},
+        {"a day of two bytes and two bytes after it", {0x01, 0xAC, 0x02, 0x07, 0x07}, 5, {9, 2, 3}},
+        {"three days and a fourth reading", {0x03, 0x01, 0x02, 0x03, 0x04}, 5, {9, 4, 4}},
+        {"two readings at fault", {0x02, 0x80, 0x00, 0x80}, 4, {2, 1, 1}},
+        {"the last reading at fault and a byte after it", {0x01, 0x80, 0x00, 0x07}, 4, {2, 1, 1}},
     };
     for (size_t i = 0; i < sizeof cases / sizeof cases[0]; i++)
-        check_refused(cases[i].name, cases[i].bytes, cases[i].len, cases[i].refusal, cases[i].place);
+        check_refused(cases[i].name, cases[i].bytes, cases[i].len, cases[i].answer);
 }
 
-/* Every cut of a sheet whose readings have one to five bytes: the place is how many numbers are whole. */
+/* Every cut of a sheet whose readings have one to five bytes: the place is how many numbers are whole, the offset is
+   where the next one begins. */
 static void check_cuts(void)
 {
     enum { DAYS = 7 };
     static const uint32_t readings[DAYS] = {0, 127, 128, 16384, 2097152, 268435456, LARGEST};
     struct sheet sheet = sheet_of(readings, DAYS);
-    uint64_t whole = 0;
+    struct answer answer = {STEEPLECUFF_REFUSED_FILE_ENDS, 0, 0};
     for (size_t len = 0; len < sheet.len; len++) {
         char name[NAME_BYTES];
         snprintf(name, sizeof name, "the first %zu of %zu bytes", len, sheet.len);
-        check_refused(name, sheet.bytes, len, STEEPLECUFF_REFUSED_FILE_ENDS, whole);
-        whole += (sheet.bytes[len] & MORE_FOLLOW) == 0;
+        check_refused(name, sheet.bytes, len, answer);
+        if ((sheet.bytes[len] & MORE_FOLLOW) == 0) {
+            answer.place++;
+            answer.offset = len + 1;
+        }
     }
     check_accepted("all of the bytes", readings, DAYS, (uint64_t[]){4270549247, 0, 0, 1, 2});
 }
@@ -219,13 +223,13 @@ static void check_longest(void)
     for (size_t day = 0; day < YEAR; day++)
         readings[day] = LARGEST - (uint32_t)day;
     struct sheet sheet = sheet_of(readings, YEAR);
+    struct answer cut = {STEEPLECUFF_REFUSED_FILE_ENDS, YEAR, sheet.len - MOST_NUMBER_BYTES};
+    struct answer after = {STEEPLECUFF_REFUSED_BYTES_AFTER, YEAR + 1, sheet.len};
     check_length("the longest sheet has the header's length", sheet.len, STEEPLECUFF_MOST_SHEET_BYTES);
     check_accepted("the longest sheet", readings, YEAR, (uint64_t[]){1463999933205, 0, 0, 1, 1});
-    check_refused("the longest sheet less a byte", sheet.bytes, sheet.len - 1, STEEPLECUFF_REFUSED_FILE_ENDS, YEAR);
-    check_refused("the longest sheet and one byte more", sheet.bytes, sheet.len + 1, STEEPLECUFF_REFUSED_BYTES_AFTER,
-                  YEAR + 1);
-    check_refused("the longest sheet and many bytes more", sheet.bytes, sheet.len + MANY_BYTES,
-                  STEEPLECUFF_REFUSED_BYTES_AFTER, YEAR + 1);
+    check_refused("the longest sheet less a byte", sheet.bytes, sheet.len - 1, cut);
+    check_refused("the longest sheet and one byte more", sheet.bytes, sheet.len + 1, after);
+    check_refused("the longest sheet and many bytes more", sheet.bytes, sheet.len + MANY_BYTES, after);
 }
 
 int main(int argc, char **argv)

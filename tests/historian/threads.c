@@ -1,6 +1,6 @@
 /* threads: makes both calls from several threads at the same time, on one file and one sheet, each thread with tables,
-   figures and places of its own and with a small stack. Checks that they leave what a call by itself leaves. Exits with
-   0 if they do, else with 1. */
+   figures, places and offsets of its own and with a small stack; in turn on the whole of both, and without their last
+   byte, which is refused. Checks that they leave what a call by itself leaves. Exits with 0 if they do, else with 1. */
 #define _POSIX_C_SOURCE 200809L /* for the barrier */
 #include <pthread.h>
 #include <stdbool.h>
@@ -12,11 +12,14 @@
 #include "steeplecuff.h"
 
 enum { THREADS = 8, CALLS = 500, STACK_BYTES = 65536, SHEET_NUMBERS = 7 };
+enum { WHOLE, CUT, LENGTHS }; /* how many bytes are missing at the end */
+enum { LAST_FILE_BYTES = 2, LAST_SHEET_BYTES = 3 }; /* of the last numbers, 2650 and 70000 */
+enum { BYTE_BEFORE = 0xA5 };
 
 /* What a call of each kind leaves. */
 struct left {
     uint32_t answer, sheet_answer;
-    uint64_t place, sheet_place;
+    uint64_t place, sheet_place, offset, sheet_offset;
     uint64_t sum, repeated, repeated_zero, longest, first;
     uint8_t plants[STEEPLECUFF_MOST_PLANT_BYTES], segments[STEEPLECUFF_MOST_SEGMENT_BYTES];
 };
@@ -24,32 +27,45 @@ struct left {
 static const uint32_t sheet_numbers[SHEET_NUMBERS] = {6, 300, 0, 0, 70000, 70000, 70000};
 static uint8_t file[WHOLE_PERIOD_NUMBERS * MOST_NUMBER_BYTES], sheet[SHEET_NUMBERS * MOST_NUMBER_BYTES];
 static size_t file_len, sheet_len;
-static struct left alone, together[THREADS];
+static struct left alone[LENGTHS], together[THREADS];
 static pthread_barrier_t start;
 
-/* Makes one call of each kind, on tables and figures of zeros. */
-static void call(struct left *left)
+/* Makes one call of each kind, without the last `missing` bytes. */
+static void call(struct left *left, size_t missing)
 {
-    memset(left, 0, sizeof *left);
-    left->answer = steeplecuff_quantify(file, file_len, left->plants, sizeof left->plants, left->segments,
-                                        sizeof left->segments, &left->place);
-    left->sheet_answer = steeplecuff_days(sheet, sheet_len, &left->sum, &left->repeated, &left->repeated_zero,
-                                          &left->longest, &left->first, &left->sheet_place);
+    memset(left, BYTE_BEFORE, sizeof *left);
+    left->answer = steeplecuff_quantify(file, file_len - missing, left->plants, sizeof left->plants, left->segments,
+                                        sizeof left->segments, &left->place, &left->offset);
+    left->sheet_answer =
+        steeplecuff_days(sheet, sheet_len - missing, &left->sum, &left->repeated, &left->repeated_zero, &left->longest,
+                         &left->first, &left->sheet_place, &left->sheet_offset);
 }
 
 static bool same_figures(const struct left *left, const struct left *right)
 {
     return left->sheet_answer == right->sheet_answer && left->sheet_place == right->sheet_place &&
-           left->sum == right->sum && left->repeated == right->repeated &&
+           left->sheet_offset == right->sheet_offset && left->sum == right->sum && left->repeated == right->repeated &&
            left->repeated_zero == right->repeated_zero && left->longest == right->longest &&
            left->first == right->first;
 }
 
 static bool same_tables(const struct left *left, const struct left *right)
 {
-    return left->answer == right->answer && left->place == right->place &&
+    return left->answer == right->answer && left->place == right->place && left->offset == right->offset &&
            memcmp(left->plants, right->plants, sizeof left->plants) == 0 &&
            memcmp(left->segments, right->segments, sizeof left->segments) == 0;
+}
+
+/* Makes the calls by themselves; answers whether they accept the whole, and refuse at its last number what is cut. */
+static bool call_alone(void)
+{
+    const struct left *whole = &alone[WHOLE], *cut = &alone[CUT];
+    call(&alone[WHOLE], WHOLE);
+    call(&alone[CUT], CUT);
+    return whole->answer == STEEPLECUFF_ACCEPTED && whole->sheet_answer == STEEPLECUFF_ACCEPTED &&
+           whole->offset == 0 && whole->sheet_offset == 0 && cut->answer == STEEPLECUFF_REFUSED_FILE_ENDS &&
+           cut->sheet_answer == STEEPLECUFF_REFUSED_FILE_ENDS && cut->offset == file_len - LAST_FILE_BYTES &&
+           cut->sheet_offset == sheet_len - LAST_SHEET_BYTES;
 }
 
 /* One thread's calls, begun when all threads are there: answers NULL if each of them leaves what a call by itself left. */
@@ -58,8 +74,9 @@ static void *call_often(void *of_thread)
     struct left *left = of_thread;
     pthread_barrier_wait(&start);
     for (int i = 0; i < CALLS; i++) {
-        call(left);
-        if (!same_tables(left, &alone) || !same_figures(left, &alone))
+        size_t missing = i % LENGTHS;
+        call(left, missing);
+        if (!same_tables(left, &alone[missing]) || !same_figures(left, &alone[missing]))
             return left;
     }
     return NULL;
@@ -73,9 +90,11 @@ int main(void)
 
     file_len = put_numbers(file, whole_period, WHOLE_PERIOD_NUMBERS);
     sheet_len = put_numbers(sheet, sheet_numbers, SHEET_NUMBERS);
-    call(&alone);
-    if (alone.answer != STEEPLECUFF_ACCEPTED || alone.sheet_answer != STEEPLECUFF_ACCEPTED ||
-        pthread_barrier_init(&start, NULL, THREADS) != 0 || pthread_attr_init(&small_stack) != 0 ||
+    if (!call_alone()) {
+        puts("a call by itself is not answered as it should be");
+        return 1;
+    }
+    if (pthread_barrier_init(&start, NULL, THREADS) != 0 || pthread_attr_init(&small_stack) != 0 ||
         pthread_attr_setstacksize(&small_stack, STACK_BYTES) != 0) {
         puts("the threads could not be prepared");
         return 1;

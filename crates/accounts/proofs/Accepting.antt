@@ -18,6 +18,7 @@ use Rattle.records.specs.declared.line.Line.{Line}
 use Rattle.records.specs.declared.counts.Counts.{Counts}
 use Rattle.records.specs.Lines.{mostGrams}
 use Rattle.records.specs.Periods.{Period, periodFile}
+use Rattle.records.specs.Places.{lineStart}
 use Rattle.records.specs.Held.{recordsOf}
 use Rattle.records.specs.Within.{Within, countsOf}
 use Rattle.records.proofs.Within.{read-within}
@@ -40,16 +41,16 @@ grams-split choose lines done = ap (gramsOf choose) (sym (take-append-drop done 
 
 -- no owner's total passes the limit: its own lines are tested with the total up to them, and the lines of others add nothing to it
 grams-each :
-    (ownerKind owner : ℕ) (lines : List Line) (done : ℕ) (left : List Line) → drop done lines ≡ left →
-    NoneFails (lineTests lines done left) → gramsOf (ownedBy ownerKind owner) (take done lines) ≤ mostGrams →
+    (starts : ℕ → ℕ) (ownerKind owner : ℕ) (lines : List Line) (done : ℕ) (left : List Line) → drop done lines ≡ left →
+    NoneFails (lineTests starts lines done left) → gramsOf (ownedBy ownerKind owner) (take done lines) ≤ mostGrams →
     gramsOf (ownedBy ownerKind owner) lines ≤ mostGrams
 unfolding lineTests
-grams-each ownerKind owner lines done [] is none few =
+grams-each starts ownerKind owner lines done [] is none few =
     let its = ownedBy ownerKind owner in
     let behind : gramsOf its (drop done lines) ≡ 0 = ap (gramsOf its) is ∙ no-grams its in
     omega (arith, grams-split its lines done)
-grams-each ownerKind owner lines done (line ∷ left) is (holds test more) few =
-    grams-each ownerKind owner lines (suc done) left left-is more (by-owner (ownedBy ownerKind owner line) refl)
+grams-each starts ownerKind owner lines done (line ∷ left) is (holds test more) few =
+    grams-each starts ownerKind owner lines (suc done) left left-is more (by-owner (ownedBy ownerKind owner line) refl)
   where
     left-is : drop (suc done) lines ≡ left
     left-is = ap (λ (n : ℕ). drop n lines) (sym (add-one done)) ∙ sym (drop-drop 1 done lines) ∙ ap (drop 1) is
@@ -86,23 +87,23 @@ charged-somewhere (suc emission) (suc inflow) e = inr (omega arith)
 
 -- if no test of the segments fails, each account is sound
 pub sound-each :
-    (accounts : List Account) → NoneFails (segmentTests accounts) →
+    (bytes : ℕ) (accounts : List Account) → NoneFails (segmentTests bytes accounts) →
     (index : ℕ) (none : Account) → index < length accounts → Sound (getD accounts index none)
 unfolding segmentTests
-sound-each [] passing index none below = absurd (omega (arith, below))
-sound-each (a ∷ accounts) (holds i (holds o (holds e more))) zero none below = record {
+sound-each bytes [] passing index none below = absurd (omega (arith, below))
+sound-each bytes (a ∷ accounts) (holds i (holds o (holds e more))) zero none below = record {
   inflow = ltb-false largest (a .inflow) i;
   outflow = ltb-false (a .inflow) (a .outflow) o;
   emission = charged-somewhere (a .emission) (a .inflow) e;
 }
-sound-each (a ∷ accounts) (holds i (holds o (holds e more))) (suc index) none below =
-    sound-each accounts more index none (omega (arith, below))
+sound-each bytes (a ∷ accounts) (holds i (holds o (holds e more))) (suc index) none below =
+    sound-each bytes accounts more index none (omega (arith, below))
 
 -- ---- what the tables satisfy if 14 and 15 do not refuse them
 pub table-room :
-    (counts : Counts) (plantTable segmentTable : ℕ) → NoneFails (tableTests counts plantTable segmentTable) →
+    (bytes : ℕ) (counts : Counts) (plantTable segmentTable : ℕ) → NoneFails (tableTests bytes counts plantTable segmentTable) →
     (plantNumbers * counts .plants ≤ plantTable) × (segmentNumbers * counts .segments ≤ segmentTable)
-table-room counts plantTable segmentTable (holds p (holds s rest)) =
+table-room bytes counts plantTable segmentTable (holds p (holds s rest)) =
     (ltb-false plantTable (plantNumbers * counts .plants) p, ltb-false segmentTable (segmentNumbers * counts .segments) s)
 
 -- ---- the whole period
@@ -127,17 +128,17 @@ account-at period index none below =
 
 -- ---- a period that was read and then accepted
 module _
-    (period : Period) (plantTable segmentTable : ℕ) (plants segments : List ℕ)
-    (accepting : judged period (accountsOf period) plantTable segmentTable ≡ accepted plants segments) where
+    (file : List ℕ) (period : Period) (plantTable segmentTable : ℕ) (plants segments : List ℕ)
+    (accepting : judged file period (accountsOf period) plantTable segmentTable ≡ accepted plants segments) where
   -- its tests that are left after reading: of the lines, of the segments, of the tables
   abbrev of-lines : List Test
-  of-lines = lineTests (period .lines) 0 (period .lines)
+  of-lines = lineTests (lineStart file (countsOf period)) (period .lines) 0 (period .lines)
 
   abbrev of-segments : List Test
-  of-segments = segmentTests (accountsOf period)
+  of-segments = segmentTests (length file) (accountsOf period)
 
   abbrev of-tables : List Test
-  of-tables = tableTests (countsOf period) plantTable segmentTable
+  of-tables = tableTests (length file) (countsOf period) plantTable segmentTable
 
   -- none of its tests fails, and the answer is its rows
   none : NoneFails (of-lines ++ (of-segments ++ of-tables))
@@ -161,14 +162,14 @@ module _
         within = within;
         grams =
             λ ownerKind owner.
-            grams-each
+            grams-each (lineStart file (countsOf period))
             ownerKind owner (period .lines) 0 (period .lines) refl (none-of-both of-lines (of-segments ++ of-tables) none .0)
             (omega (arith, no-grams (ownedBy ownerKind owner)));
         sound =
             λ index below.
             let a : Account = accountAt period index in
             rw (account-at period index a below)
-            at (sound-each (accountsOf period) (none-of-both of-segments of-tables none-behind .0) index a (rw (accounts-length period) below));
+            at (sound-each (length file) (accountsOf period) (none-of-both of-segments of-tables none-behind .0) index a (rw (accounts-length period) below));
         plants-are = cc are;
         segments-are = cc are;
       }
@@ -176,7 +177,7 @@ module _
   -- and each table is as long as 14 and 15 ask
   judged-room : (plantNumbers * length (period .plants) ≤ plantTable) × (segmentNumbers * length (period .segments) ≤ segmentTable)
   judged-room =
-      table-room (countsOf period) plantTable segmentTable (none-of-both of-segments of-tables none-behind .1)
+      table-room (length file) (countsOf period) plantTable segmentTable (none-of-both of-segments of-tables none-behind .1)
 
 -- ---- a file that is accepted
 -- what its period satisfies, and its rows
@@ -186,10 +187,10 @@ accepted-means {file} {plants} {segments} given = by-reading (periodFile file) r
   where
     by-reading :
         (outcome : Read Period) → periodFile file ≡ outcome →
-        afterReading outcome (given .plantTable) (given .segmentTable) ≡ accepted plants segments → Means (recordsOf outcome) plants segments
-    by-reading (refused number place) r e = absurd (refusal-not-accepted e)
-    by-reading (read period place rest) r e =
-        judged-means period (given .plantTable) (given .segmentTable) plants segments e (read-within file period place rest r)
+        afterReading file outcome (given .plantTable) (given .segmentTable) ≡ accepted plants segments → Means (recordsOf outcome) plants segments
+    by-reading (refused notice) r e = absurd (refusal-not-accepted e)
+    by-reading (read period place at) r e =
+        judged-means file period (given .plantTable) (given .segmentTable) plants segments e (read-within file period place at r)
 
 -- how long its tables are
 pub accepted-lengths :
@@ -199,7 +200,7 @@ unfolding quantified held
 accepted-lengths {file} {plants} {segments} given = by-reading (periodFile file) (given .answer)
   where
     by-reading :
-        (outcome : Read Period) → afterReading outcome (given .plantTable) (given .segmentTable) ≡ accepted plants segments →
+        (outcome : Read Period) → afterReading file outcome (given .plantTable) (given .segmentTable) ≡ accepted plants segments →
         (plantNumbers * length (recordsOf outcome .plants) ≤ given .plantTable) × (segmentNumbers * length (recordsOf outcome .segments) ≤ given .segmentTable)
-    by-reading (refused number place) e = absurd (refusal-not-accepted e)
-    by-reading (read period place rest) e = judged-room period (given .plantTable) (given .segmentTable) plants segments e
+    by-reading (refused notice) e = absurd (refusal-not-accepted e)
+    by-reading (read period place at) e = judged-room file period (given .plantTable) (given .segmentTable) plants segments e

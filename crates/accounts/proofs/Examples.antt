@@ -3,14 +3,12 @@
 use Prim.Native.Nat.{ℕ}
 use mathlib.Core.Path.{_≡_, refl}
 use mathlib.Core.List.{List, [], _∷_, _++_, zipWith, flatMap}
-use lib.ListN.{drop}
 use Rattle.number.specs.Groups.{gather, value, padded}
-use Rattle.number.specs.Reading.{Found, reading, formed}
-use Rattle.number.specs.Reading.Found.{number, fault}
+use Rattle.number.specs.Reading.{reading, readAt, formed}
+use Rattle.number.specs.Counting.{startOf}
 use Rattle.number.specs.Writing.{writing, written}
-use Rattle.fields.specs.Run.{Run, starting, runOf, run}
-use Rattle.fields.specs.Readers.{each, read, reads}
-use Rattle.fields.specs.Files.{ended}
+use Rattle.fields.specs.Answers.{notice}
+use Rattle.fields.specs.Readers.{each, reads}
 use Rattle.fields.specs.Tests.{testedBy}
 use Rattle.fields.specs.Lists.{sum}
 use Rattle.records.specs.Classes.{plantOwner, classes, classAllowed}
@@ -22,7 +20,7 @@ use Rattle.accounts.specs.Flow.{creditsFrom, passed, turns, arrived}
 use Rattle.accounts.specs.Accounts.{setOf, account}
 use Rattle.accounts.specs.Rows.{plantRows, segmentRows}
 use Rattle.accounts.specs.Order.{refusal, accepted, lineTests, segmentTests}
-use Rattle.accounts.specs.Quantified.{accountsOf, rows, judged, afterReading, quantified}
+use Rattle.accounts.specs.Quantified.{accountsOf, rows, judged, quantified}
 use Rattle.accounts.specs.Accepted.{held}
 
 -- The numbers of the worked period; the changes are of the exports, the outflows, the second kind, and the first line's
@@ -46,12 +44,6 @@ file = flatMap written
 abbrev pub whole : List ℕ
 whole = file (numbers 10000 5001 14900 6 14899 2000 350)
 
--- Whatever is found behind its last number, the file is refused for it.
-found-behind :
-    (found : Found) (rest : ℕ → Run) → afterReading (ended (read (held whole) 26 (starting found rest))) 16 10 ≡ refusal 9 26
-found-behind (number v next) rest = refl
-found-behind (fault k) rest = refl
-
 pub examples :
     -- the worked period, with tables just large enough
     (quantified whole 16 10
@@ -63,21 +55,21 @@ pub examples :
     ∷ 14900 ∷ 14899 ∷ 1 ∷ 0 ∷ 3
     ∷ []))
     -- empty file
-    × (quantified [] 16 10 ≡ refusal 1 0)
+    × (quantified [] 16 10 ≡ refusal (notice 1 0 0))
     -- the byte 0x01 alone
-    × (quantified (0x01 ∷ []) 16 10 ≡ refusal 1 1)
+    × (quantified (0x01 ∷ []) 16 10 ≡ refusal (notice 1 1 1))
     -- the bytes 0x80 0x00
-    × (quantified (0x80 ∷ 0x00 ∷ []) 16 10 ≡ refusal 2 0)
+    × (quantified (0x80 ∷ 0x00 ∷ []) 16 10 ≡ refusal (notice 2 0 0))
     -- the bytes 0x81 0xD0 0xAC 0xF3 0x0E
-    × (quantified (0x81 ∷ 0xD0 ∷ 0xAC ∷ 0xF3 ∷ 0x0E ∷ []) 16 10 ≡ refusal 3 0)
+    × (quantified (0x81 ∷ 0xD0 ∷ 0xAC ∷ 0xF3 ∷ 0x0E ∷ []) 16 10 ≡ refusal (notice 3 0 0))
     -- the byte 0x02 alone
-    × (quantified (0x02 ∷ []) 16 10 ≡ refusal 4 0)
+    × (quantified (0x02 ∷ []) 16 10 ≡ refusal (notice 4 0 0))
     -- the bytes 0x01 0x00
-    × (quantified (0x01 ∷ 0x00 ∷ []) 16 10 ≡ refusal 5 1)
+    × (quantified (0x01 ∷ 0x00 ∷ []) 16 10 ≡ refusal (notice 5 1 1))
     -- the worked period, second kind 5
-    × (quantified (file (numbers 10000 5001 14900 5 14899 2000 350)) 16 10 ≡ refusal 7 15)
+    × (quantified (file (numbers 10000 5001 14900 5 14899 2000 350)) 16 10 ≡ refusal (notice 7 15 23))
     -- a byte behind the worked period, whichever it is
-    × ((byte : ℕ) → quantified (whole ++ byte ∷ []) 16 10 ≡ refusal 9 26)
+    × ((byte : ℕ) → quantified (whole ++ byte ∷ []) 16 10 ≡ refusal (notice 9 26 37))
     -- first line 4000000000 × 1000: plant 1 units 0, deficit 3999990248
     × (quantified (file (numbers 10000 5001 14900 6 14899 4_000_000_000 1000)) 16 10
     ≡ accepted
@@ -88,7 +80,7 @@ pub examples :
     ∷ 14900 ∷ 14899 ∷ 1 ∷ 0 ∷ 3
     ∷ []))
     -- first line 4000000000 × 1001
-    × (quantified (file (numbers 10000 5001 14900 6 14899 4_000_000_000 1001)) 16 10 ≡ refusal 10 1)
+    × (quantified (file (numbers 10000 5001 14900 6 14899 4_000_000_000 1001)) 16 10 ≡ refusal (notice 10 1 24))
     -- first outflow 15001
     × (quantified (file (numbers 10000 5001 15001 6 14899 2000 350)) 16 10
     ≡ accepted
@@ -99,12 +91,12 @@ pub examples :
     ∷ 15001 ∷ 14899 ∷ 102 ∷ 0 ∷ 3
     ∷ []))
     -- first outflow 15002
-    × (quantified (file (numbers 10000 5001 15002 6 14899 2000 350)) 16 10 ≡ refusal 12 1)
+    × (quantified (file (numbers 10000 5001 15002 6 14899 2000 350)) 16 10 ≡ refusal (notice 12 1 37))
     -- nothing is exported and no meter shows anything, but there are lines
-    × (quantified (file (numbers 0 0 0 6 0 2000 350)) 16 10 ≡ refusal 13 1)
+    × (quantified (file (numbers 0 0 0 6 0 2000 350)) 16 10 ≡ refusal (notice 13 1 33))
     -- a plant table that is one number short
-    × (quantified whole 15 10 ≡ refusal 14 16)
-unfolding gather value padded reading formed writing written flatMap zipWith classes classAllowed runOf run each reads header plant segment line
+    × (quantified whole 15 10 ≡ refusal (notice 14 16 37))
+unfolding gather value padded reading formed writing written flatMap zipWith classes classAllowed readAt startOf each reads header plant segment line
     records period periodFile sum chosen gramsOf emission creditsFrom passed turns arrived setOf account plantRows segmentRows testedBy lineTests
     segmentTests accountsOf rows judged quantified held
 examples = (
@@ -116,7 +108,7 @@ examples = (
   refl,
   refl,
   refl,
-  λ byte. found-behind (reading (byte ∷ [])) (λ (next : ℕ). runOf 11 (drop next (byte ∷ []))),
+  λ byte. refl,
   refl,
   refl,
   refl,

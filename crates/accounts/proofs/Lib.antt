@@ -36,6 +36,8 @@ pub mod Fits
 -- A file is refused exactly for the first reason that holds, and accepted exactly if none does.
 mod Places
 pub mod Order
+-- Every refusal has the offset that is due to its number and place.
+pub mod Offsets
 -- No refusal has the number 0.
 pub mod Numbered
 -- The worked period and its changes.

@@ -1,20 +1,23 @@
--- A period file is refused exactly if one of the fifteen reasons holds at its place and none that comes before it in their order does (rule 8.8);
--- it is accepted exactly if none holds. `specs/AllTests.antt` lists the reasons as tests, each at its place, in that order. Here the
+-- A period file is refused exactly if one of the fifteen reasons holds at its place and offset, and none that comes before it in their order does (rule 8.8);
+-- it is accepted exactly if none holds. `specs/AllTests.antt` lists the reasons as tests, each at its place and offset, in that order. Here the
 -- answer to a file is shown to be that of the first test that fails, and the rows of the period that stands in the file if none fails.
 use Prim.Native.Nat.{ℕ}
 use mathlib.Core.Path.{_≡_, sym, ap, _∙_}
 use mathlib.Core.Logic.{_↔_}
 use mathlib.Core.List.{List, [], _++_}
+use lib.ListN.{length}
+use Rattle.fields.specs.Answers.{Notice}
 use Rattle.fields.specs.Readers.{Read}
 use Rattle.fields.specs.Tests.{Test, FirstFails, NoneFails}
 use Rattle.fields.proofs.Testing.{first-answers, none-answers, listed-length}
 use Rattle.fields.proofs.Asking.{Tried, all-pass, one-fails, tried}
 use Rattle.records.specs.Periods.{Period, period, periodFile}
+use Rattle.records.specs.Places.{numberCount, lineStart}
 use Rattle.records.specs.Held.{recordsOf}
 use Rattle.accounts.specs.Order.{Ruling, refusal, accepted, tested, lineTests, segmentTests, tableTests}
 use Rattle.accounts.specs.Quantified.{accountsOf, rows, judged, afterReading, quantified}
 use Rattle.accounts.specs.Accepted.{Accepted, held}
-use Rattle.accounts.specs.AllTests.{countsAt, numberCount, periodAt, readingTests, allTests}
+use Rattle.accounts.specs.AllTests.{countsAt, periodAt, readingTests, allTests}
 use Rattle.accounts.proofs.Testing.{refusal-not-accepted, first-fails, none-fails}
 use Rattle.accounts.proofs.Refused.{reading-refuses}
 use Rattle.accounts.proofs.Places.{period-asks}
@@ -33,8 +36,8 @@ held-is {file} given = by-reading (period-tried file [])
   where
     by-reading : PeriodTried file [] → recordsOf (periodFile file) ≡ periodAt file
     by-reading (all-pass is says) = ap recordsOf is
-    by-reading (one-fails {number} {place} is says) =
-        absurd (refusal-not-accepted (sym (reading-refuses file (given .plantTable) (given .segmentTable) number place is) ∙ given .answer))
+    by-reading (one-fails {notice} is says) =
+        absurd (refusal-not-accepted (sym (reading-refuses file (given .plantTable) (given .segmentTable) notice is) ∙ given .answer))
 
 -- ---- the answer to a file
 module _ (file : List ℕ) (plantTable segmentTable : ℕ) where
@@ -52,18 +55,18 @@ module _ (file : List ℕ) (plantTable segmentTable : ℕ) where
     where
       left : List Test
       left =
-          lineTests (periodAt file .lines) 0 (periodAt file .lines)
-          ++ (segmentTests (accountsOf (periodAt file)) ++ tableTests (countsAt file) plantTable segmentTable)
+          lineTests (lineStart file (countsAt file)) (periodAt file .lines) 0 (periodAt file .lines)
+          ++ (segmentTests (length file) (accountsOf (periodAt file)) ++ tableTests (length file) (countsAt file) plantTable segmentTable)
 
       by-reading : PeriodTried file left → quantified file plantTable segmentTable ≡ tested tests rowsAt
       by-reading (all-pass is says) =
-          ap (λ (outcome : Read Period). afterReading outcome plantTable segmentTable) is ∙ simp listed-length (sym (says rowsAt))
-      by-reading (one-fails {number} {place} is says) = reading-refuses file plantTable segmentTable number place is ∙ sym (says rowsAt)
+          ap (λ (outcome : Read Period). afterReading file outcome plantTable segmentTable) is ∙ simp listed-length (sym (says rowsAt))
+      by-reading (one-fails {notice} is says) = reading-refuses file plantTable segmentTable notice is ∙ sym (says rowsAt)
 
   -- refused only for one of the reasons, and always for the first that holds
-  pub refused-exactly : (number place : ℕ) → (quantified file plantTable segmentTable ≡ refusal number place) ↔ FirstFails tests number place
+  pub refused-exactly : (notice : Notice) → (quantified file plantTable segmentTable ≡ refusal notice) ↔ FirstFails tests notice
   unfolding rows
-  refused-exactly number place = (λ e. first-fails tests number place _ _ (sym order ∙ e), λ first. order ∙ first-answers refusal rowsAt first)
+  refused-exactly notice = (λ e. first-fails tests notice _ _ (sym order ∙ e), λ first. order ∙ first-answers refusal rowsAt first)
 
   -- accepted only if none of them holds, whatever the rows
   pub accepted-is : (plants segments : List ℕ) → quantified file plantTable segmentTable ≡ accepted plants segments → NoneFails tests

@@ -7,8 +7,9 @@ use Rattle.fields.specs.Tests.{Test, endTest}
 use Rattle.fields.proofs.Asking.{Asks, done, field, amount, one-then, so-many}
 use Rattle.records.specs.Headers.{header}
 use Rattle.records.specs.Periods.{plant, segment, line, records, period}
+use Rattle.records.specs.Places.{plantPlace, segmentPlace, linePlace, numberCount}
 use Rattle.accounts.specs.Order.{refusal}
-use Rattle.accounts.specs.AllTests.{countsAt, plantPlace, segmentPlace, linePlace, numberCount, plantAt, segmentAt, lineAt, periodAt, headerTests, plantTests, segmentFieldTests, lineFieldTests, readingTests}
+use Rattle.accounts.specs.AllTests.{countsAt, plantAt, segmentAt, lineAt, periodAt, headerTests, plantTests, segmentFieldTests, lineFieldTests, readingTests}
 
 module _ (file : List ℕ) where
   -- ---- the header, and one record of each kind

@@ -13,6 +13,7 @@ use Rattle.records.specs.declared.counts.Counts.{Counts}
 use Rattle.records.specs.Plants.{mostPlants}
 use Rattle.records.specs.Segments.{mostSegments}
 use Rattle.records.specs.Periods.{Period, periodFile}
+use Rattle.records.specs.Places.{lineStart}
 use Rattle.records.specs.Within.{countsOf}
 use Rattle.records.proofs.Within.{read-within}
 use Rattle.accounts.specs.Order.{tested, lineTests, segmentTests, plantNumbers, segmentNumbers, tableTests}
@@ -31,10 +32,10 @@ same-test table most need few = by-test (ltb table need) refl
 
 -- 14 and 15
 same-tests :
-    (counts : Counts) (plantTable segmentTable : ℕ) → counts .plants ≤ mostPlants → counts .segments ≤ mostSegments →
-    tableTests counts (min plantTable (plantNumbers * mostPlants)) (min segmentTable (segmentNumbers * mostSegments))
-    ≡ tableTests counts plantTable segmentTable
-same-tests counts plantTable segmentTable few-plants few-segments =
+    (bytes : ℕ) (counts : Counts) (plantTable segmentTable : ℕ) → counts .plants ≤ mostPlants → counts .segments ≤ mostSegments →
+    tableTests bytes counts (min plantTable (plantNumbers * mostPlants)) (min segmentTable (segmentNumbers * mostSegments))
+    ≡ tableTests bytes counts plantTable segmentTable
+same-tests bytes counts plantTable segmentTable few-plants few-segments =
     let p = same-test plantTable (plantNumbers * mostPlants) (plantNumbers * counts .plants) (omega arith) in
     let s = same-test segmentTable (segmentNumbers * mostSegments) (segmentNumbers * counts .segments) (omega arith) in
     cc
@@ -48,15 +49,15 @@ room-enough file plantTable segmentTable = by-reading (periodFile file) refl
   where
     by-reading :
         (outcome : Read Period) → periodFile file ≡ outcome →
-        afterReading outcome (min plantTable (plantNumbers * mostPlants)) (min segmentTable (segmentNumbers * mostSegments))
-        ≡ afterReading outcome plantTable segmentTable
-    by-reading (refused number place) e = refl
-    by-reading (read period place rest) e =
-        let within = read-within file period place rest e in
+        afterReading file outcome (min plantTable (plantNumbers * mostPlants)) (min segmentTable (segmentNumbers * mostSegments))
+        ≡ afterReading file outcome plantTable segmentTable
+    by-reading (refused notice) e = refl
+    by-reading (read period place at) e =
+        let within = read-within file period place at e in
         ap
         (λ (tests : List Test).
-        tested (lineTests (period .lines) 0 (period .lines) ++ (segmentTests (accountsOf period) ++ tests)) (rows period (accountsOf period)))
-        (same-tests (countsOf period) plantTable segmentTable (within .counts .most-plants) (within .counts .most-segments))
+        tested (lineTests (lineStart file (countsOf period)) (period .lines) 0 (period .lines) ++ (segmentTests (length file) (accountsOf period) ++ tests)) (rows period (accountsOf period)))
+        (same-tests (length file) (countsOf period) plantTable segmentTable (within .counts .most-plants) (within .counts .most-segments))
 
 -- ---- an accepted file's numbers have room in its tables
 pub accepted-room :

@@ -1,7 +1,8 @@
--- All tests of a file, each at its place and in order, without a reader; by `proofs/Order.antt` the first that fails is the answer.
-use Prim.Native.Nat.{ℕ, suc, _+_, _*_}
+-- All tests of a file, each at its place and offset and in order, without a reader; by `proofs/Order.antt` the first that fails is the answer.
+use Prim.Native.Nat.{ℕ, suc, _+_}
 use mathlib.Core.List.{List, [], _∷_, _++_}
 use lib.Dec.{eqb}
+use lib.ListN.{length}
 use Rattle.number.specs.Counting.{valueAt}
 use Rattle.fields.specs.declared.reason.Reason.the-variants.{WrongEdition, WrongCount, WrongPlant, WrongSegment, WrongLine}
 use Rattle.fields.specs.Tests.{Test, numberTests, fieldTests, endTest, listed, testsOfEach}
@@ -9,33 +10,19 @@ use Rattle.records.specs.declared.counts.Counts.{Counts}
 use Rattle.records.specs.declared.plant.Plant.{Plant}
 use Rattle.records.specs.declared.segment.Segment.{Segment}
 use Rattle.records.specs.declared.line.Line.{Line}
-use Rattle.records.specs.Plants.{plantFields, plantsAllowed, firstAllowed, fractionAllowed, plantOf}
-use Rattle.records.specs.Segments.{segmentFields, segmentsAllowed, kindAllowed, nextAllowed, segmentOf}
+use Rattle.records.specs.Plants.{plantsAllowed, firstAllowed, fractionAllowed, plantOf}
+use Rattle.records.specs.Segments.{segmentsAllowed, kindAllowed, nextAllowed, segmentOf}
 use Rattle.records.specs.Classes.{classAllowed}
-use Rattle.records.specs.Lines.{lineFields, linesAllowed, ownerKindAllowed, ownerAllowed, factorAllowed, lineOf}
-use Rattle.records.specs.Headers.{edition, announced, headerFields}
+use Rattle.records.specs.Lines.{linesAllowed, ownerKindAllowed, ownerAllowed, factorAllowed, lineOf}
+use Rattle.records.specs.Headers.{edition, announced}
 use Rattle.records.specs.Periods.{Period}
+use Rattle.records.specs.Places.{plantPlace, segmentPlace, linePlace, numberCount, lineStart}
 use Rattle.accounts.specs.Order.{lineTests, segmentTests, tableTests}
 use Rattle.accounts.specs.Quantified.{accountsOf}
 
--- ---- where the records stand: a header, and then P plants, S segments and L lines
 -- The counts that the header tells (rule 2.3).
 unfoldable pub countsAt : List ℕ → Counts
 countsAt file = announced (valueAt file 1) (valueAt file 2) (valueAt file 3)
-
--- The place of the first number of a plant, and below of a segment and of a line, each at an index from 0 (rules 2.1 and 2.2).
-abbrev pub plantPlace : ℕ → ℕ
-plantPlace index = headerFields + plantFields * index
-
-abbrev pub segmentPlace : Counts → ℕ → ℕ
-segmentPlace counts index = plantPlace (counts .plants) + segmentFields * index
-
-abbrev pub linePlace : Counts → ℕ → ℕ
-linePlace counts index = segmentPlace counts (counts .segments) + lineFields * index
-
--- How many numbers a file with these counts has (rule 2.2).
-abbrev pub numberCount : Counts → ℕ
-numberCount counts = linePlace counts (counts .lines)
 
 -- ---- the records, by the numbers at their places
 abbrev pub plantAt : List ℕ → ℕ → Plant
@@ -111,6 +98,6 @@ unfoldable pub allTests : List ℕ → (plantTable segmentTable : ℕ) → List 
 allTests file plantTable segmentTable =
     let period = periodAt file in
     readingTests file
-    ++ (lineTests (period .lines) 0 (period .lines)
-    ++ (segmentTests (accountsOf period)
-    ++ tableTests (countsAt file) plantTable segmentTable))
+    ++ (lineTests (lineStart file (countsAt file)) (period .lines) 0 (period .lines)
+    ++ (segmentTests (length file) (accountsOf period)
+    ++ tableTests (length file) (countsAt file) plantTable segmentTable))

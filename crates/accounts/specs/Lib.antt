@@ -12,6 +12,7 @@ pub mod Quantified
 -- what the theorems speak of
 pub mod AllTests
 pub mod Accepted
+pub mod OffsetDue
 pub mod RowsAndColumns
 pub mod Shares
 pub mod Routes

@@ -6,6 +6,7 @@ use lib.ListN.{take}
 use lib.Dec.{ltb, eqb}
 use Rattle.number.specs.Groups.{largest}
 use Rattle.fields.specs.declared.reason.Reason.the-variants.{TooManyGrams, InflowTooLarge, OutflowOverInflow, EmissionWithoutInflow, PlantTableShort, SegmentTableShort}
+use Rattle.fields.specs.Answers.{Notice}
 use Rattle.fields.specs.Tests.{Test, testedBy}
 use Rattle.records.specs.declared.line.Line.{Line}
 use Rattle.records.specs.declared.counts.Counts.{Counts}
@@ -13,34 +14,36 @@ use Rattle.records.specs.Lines.{mostGrams}
 use Rattle.accounts.specs.Emissions.{ownedBy, gramsOf}
 use Rattle.accounts.specs.Accounts.{Account}
 
--- The answer to a file: refused with number and place, or accepted with the numbers of both tables (rule 8.8).
+-- The answer to a file: refused with a notice, or accepted with the numbers of both tables (rule 8.8).
 pub data Ruling : Type 0 where
-  refusal : (number place : ℕ) → Ruling
+  refusal : Notice → Ruling
   accepted : (plants segments : List ℕ) → Ruling
 
 -- The first test that fails refuses; if none fails, the given ruling is the answer (rule 8.8).
 abbrev pub tested : List Test → Ruling → Ruling
 tested = testedBy refusal
 
--- 10, line by line, with the line's number as place: the total of its owner up to and with this line (rules 8.2 and 8.5).
-unfoldable pub lineTests : List Line → (done : ℕ) → List Line → List Test
-lineTests lines done [] = []
-lineTests lines done (line ∷ rest) =
+-- 10, line by line, with the line's number as place and its first byte as offset: the total of its owner up to and with this line (rules 8.2,
+-- 8.5 and 8.9). `starts` has the first byte of the line at each index.
+unfoldable pub lineTests : (starts : ℕ → ℕ) → List Line → (done : ℕ) → List Line → List Test
+lineTests starts lines done [] = []
+lineTests starts lines done (line ∷ rest) =
     record {
       fails = ltb mostGrams (gramsOf (ownedBy (line .«owner_kind») (line .owner)) (take (suc done) lines));
       reason = TooManyGrams;
       place = suc done;
+      offset = starts done;
     }
-    ∷ lineTests lines (suc done) rest
+    ∷ lineTests starts lines (suc done) rest
 
--- 11, 12 and 13, segment by segment, with the segment's number as place (rules 8.2 and 8.6).
-unfoldable pub segmentTests : List Account → List Test
-segmentTests [] = []
-segmentTests (a ∷ accounts) =
-    record { fails = ltb largest (a .inflow); reason = InflowTooLarge; place = a .own }
-    ∷ record { fails = ltb (a .inflow) (a .outflow); reason = OutflowOverInflow; place = a .own }
-    ∷ record { fails = ltb 0 (a .emission) && eqb (a .inflow) 0; reason = EmissionWithoutInflow; place = a .own }
-    ∷ segmentTests accounts
+-- 11, 12 and 13, segment by segment, with the segment's number as place, and as offset how many bytes were read (rules 8.2, 8.6 and 8.9).
+unfoldable pub segmentTests : (bytes : ℕ) → List Account → List Test
+segmentTests bytes [] = []
+segmentTests bytes (a ∷ accounts) =
+    record { fails = ltb largest (a .inflow); reason = InflowTooLarge; place = a .own; offset = bytes }
+    ∷ record { fails = ltb (a .inflow) (a .outflow); reason = OutflowOverInflow; place = a .own; offset = bytes }
+    ∷ record { fails = ltb 0 (a .emission) && eqb (a .inflow) 0; reason = EmissionWithoutInflow; place = a .own; offset = bytes }
+    ∷ segmentTests bytes accounts
 
 -- How many numbers a row has, of a plant and of a segment (rules 7.1 and 7.2).
 abbrev pub plantNumbers : ℕ
@@ -49,11 +52,12 @@ plantNumbers = 8
 abbrev pub segmentNumbers : ℕ
 segmentNumbers = 5
 
--- 14 and 15: whether each table has room for its rows; the place is how many numbers these have (rule 8.7).
-abbrev pub tableTests : Counts → (plantTable segmentTable : ℕ) → List Test
-tableTests counts plantTable segmentTable =
+-- 14 and 15: whether each table has room for its rows; the place is how many numbers these have, the offset how many bytes were read (rules 8.7
+-- and 8.9).
+abbrev pub tableTests : (bytes : ℕ) → Counts → (plantTable segmentTable : ℕ) → List Test
+tableTests bytes counts plantTable segmentTable =
     let plantsNeed = plantNumbers * counts .plants in
     let segmentsNeed = segmentNumbers * counts .segments in
-    record { fails = ltb plantTable plantsNeed; reason = PlantTableShort; place = plantsNeed }
-    ∷ record { fails = ltb segmentTable segmentsNeed; reason = SegmentTableShort; place = segmentsNeed }
+    record { fails = ltb plantTable plantsNeed; reason = PlantTableShort; place = plantsNeed; offset = bytes }
+    ∷ record { fails = ltb segmentTable segmentsNeed; reason = SegmentTableShort; place = segmentsNeed; offset = bytes }
     ∷ []

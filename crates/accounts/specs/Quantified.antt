@@ -1,8 +1,10 @@
 -- The answer to a period file, for every file and every length of both tables.
 use Prim.Native.Nat.{ℕ}
 use mathlib.Core.List.{List, _++_, map}
+use lib.ListN.{length}
 use Rattle.fields.specs.Readers.{Read, read, refused}
 use Rattle.records.specs.Periods.{Period, periodFile}
+use Rattle.records.specs.Places.{lineStart}
 use Rattle.records.specs.Within.{countsOf}
 use Rattle.accounts.specs.Flow.{Standing, atFirst, Turn, turns, arrived}
 use Rattle.accounts.specs.Accounts.{Account, account}
@@ -32,20 +34,20 @@ rows period accounts =
     (plantRows (period .lines) accounts 0 (period .plants) (stores period))
     (segmentRows accounts)
 
--- The ruling on a period that was read: the tests 10 to 15, with tables of these lengths (rules 8.5 to 8.8).
-unfoldable pub judged : Period → List Account → (plantTable segmentTable : ℕ) → Ruling
-judged period accounts plantTable segmentTable =
+-- The ruling on a period that was read from a file: the tests 10 to 15, with tables of these lengths (rules 8.5 to 8.9).
+unfoldable pub judged : (file : List ℕ) → Period → List Account → (plantTable segmentTable : ℕ) → Ruling
+judged file period accounts plantTable segmentTable =
     tested
-    (lineTests (period .lines) 0 (period .lines)
-    ++ (segmentTests accounts
-    ++ tableTests (countsOf period) plantTable segmentTable))
+    (lineTests (lineStart file (countsOf period)) (period .lines) 0 (period .lines)
+    ++ (segmentTests (length file) accounts
+    ++ tableTests (length file) (countsOf period) plantTable segmentTable))
     (rows period accounts)
 
 -- A refusal of reading is the answer; a period that was read is judged (rule 8.8).
-abbrev pub afterReading : Read Period → (plantTable segmentTable : ℕ) → Ruling
-afterReading (refused number place) plantTable segmentTable = refusal number place
-afterReading (read period place rest) plantTable segmentTable = judged period (accountsOf period) plantTable segmentTable
+abbrev pub afterReading : (file : List ℕ) → Read Period → (plantTable segmentTable : ℕ) → Ruling
+afterReading file (refused notice) plantTable segmentTable = refusal notice
+afterReading file (read period place at) plantTable segmentTable = judged file period (accountsOf period) plantTable segmentTable
 
 -- The answer to a file, with tables of these lengths (rule 8.8).
 unfoldable pub quantified : List ℕ → (plantTable segmentTable : ℕ) → Ruling
-quantified file plantTable segmentTable = afterReading (periodFile file) plantTable segmentTable
+quantified file plantTable segmentTable = afterReading file (periodFile file) plantTable segmentTable

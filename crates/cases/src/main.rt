@@ -1,7 +1,7 @@
 // The test program: for each case on standard input it prints a line, what number reading or the reading of a period file answers.
 // A case is its kind in 1 byte, the asked byte in 8 and the file's length in 4, both least significant byte first, and then the file.
-// Kind N asks what number reading finds at that byte: "N value next", or for a fault "R refusal byte". Kind P asks how the file is
-// read, whatever that byte: "A" and its numbers in file order, as the records hold them, or for a refused file "R refusal place".
+// Kind N asks what number reading reports at that byte: "N value offset next", or for a fault "R refusal byte offset". Kind P asks how the
+// file is read, whatever that byte: "A" and its numbers in file order, as the records hold them, or for a refused file "R refusal place offset".
 // Input that is no whole case is said on standard error, and ends the run.
 mod case;
 mod numbers;

@@ -18,7 +18,7 @@ answer-room : (answer : SheetAnswer) → length (answerText answer) ≤ mostDays
 answer-room (figures found) =
     let days = found .repeated ∷ found .«repeated_zero» ∷ found .longest ∷ found .first ∷ [] in
     rw (length-append (decimal (found .sum)) (textLine [] days)) (omega (arith, decimal-long (found .sum), line-long [] days))
-answer-room (refusal number place) = omega (arith, line-long (ascii "R") (number ∷ place ∷ []))
+answer-room (refusal notice) = omega (arith, line-long (ascii "R") (notice .number ∷ notice .place ∷ notice .offset ∷ []))
 
 text-room : (sheet : List ℕ) → length (answerText (meterDays sheet)) ≤ mostDaysText
 text-room sheet = answer-room (meterDays sheet)

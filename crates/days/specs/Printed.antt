@@ -15,7 +15,7 @@ figuresText found =
 -- By the answer to a sheet: the figures, or the line of a refused sheet.
 abbrev pub answerText : SheetAnswer → List ℕ
 answerText (figures found) = figuresText found
-answerText (refusal number place) = refusalText number place
+answerText (refusal notice) = refusalText notice
 
 -- The text that is printed for a sheet (rule 12.10).
 unfoldable pub printedDays : List ℕ → List ℕ

@@ -2,19 +2,21 @@
 -- the byte there. Not the numbers that were taken, nor the tests that are left: laws on a whole reader say these.
 use Prim.Native.Nat.{ℕ, zero, suc, _+_, _^_, _≤_, _<_}
 use mathlib.Core.Path.{_≡_, refl, ap}
-use mathlib.Core.Bool.{Bool, true}
+use mathlib.Core.Bool.{Bool, true, false, cond}
 use mathlib.Core.List.{List, []}
 use native.Mathlib.Omega.{arith}
-use lib.ListN.{length, drop}
+use lib.ListN.{length}
+use lib.Dec.{ltb}
+use borrow.Author.Tests.{ltb-false}
 use Rattle.number.specs.Groups.{radix, largest}
-use Rattle.number.specs.Reading.{readAt, tooLarge}
+use Rattle.number.specs.Reading.{readAt, offsetAt, tooLarge}
 use Rattle.number.specs.Reading.Found.{number as oneNumber}
 use Rattle.number.proofs.Laws.{bounds, faults}
 use Rattle.number.proofs.Writing.{few-bytes}
 use Rattle.fields.specs.declared.reason.Reason.{Reason}
 use Rattle.fields.specs.declared.reason.Reason.the-variants.{BytesAfter}
 use Rattle.fields.specs.Reasons.{numberOf}
-use Rattle.fields.specs.Run.{Run, over, fault, number, run}
+use Rattle.fields.specs.Answers.{Notice, notice}
 use Rattle.fields.specs.Readers.{Reader, return, needs, _>>=_, each, Read, read, refused, reads}
 use Rattle.fields.specs.Files.{ended}
 use Rattle.fields.specs.Lists.{Each}
@@ -32,15 +34,15 @@ module _ (file : List ℕ) (May : (place at : ℕ) → Reason → Type 0) {A : T
 
   -- What reading then gives: that property; or a refusal at a field that it may need, or for a fault.
   pub data Came : Read A → Type 0 where
-    came : {what : A} {place at : ℕ} → P what place at → Came (read what place (run (drop at file)))
-    not-allowed : {reason : Reason} {place at : ℕ} → May place at reason → Came (refused (numberOf reason) place)
-    has-fault : {fault place : ℕ} → fault ≤ tooLarge → Came (refused fault place)
+    came : {what : A} {place at : ℕ} → P what place at → Came (read what place at)
+    not-allowed : {reason : Reason} {place at offset : ℕ} → May place at reason → Came (refused (notice (numberOf reason) place offset))
+    has-fault : {fault place offset : ℕ} → fault ≤ tooLarge → Came (refused (notice fault place offset))
 
   -- And what the whole file gives: all is read, and no bytes are left or some are; or that refusal.
   pub data Ended : Read A → Type 0 where
-    none-left : {what : A} {place at : ℕ} → P what place at → Ended (read what place over)
-    bytes-left : {what : A} {place at : ℕ} → P what place at → Ended (refused (numberOf BytesAfter) place)
-    not-read : {refusal place : ℕ} → Came (refused refusal place) → Ended (refused refusal place)
+    none-left : {what : A} {place at : ℕ} → P what place at → length file ≤ at → Ended (read what place at)
+    bytes-left : {what : A} {place at : ℕ} → P what place at → Ended (refused (notice (numberOf BytesAfter) place at))
+    not-read : {notice : Notice} → Came (refused notice) → Ended (refused notice)
 
 module _ {file : List ℕ} {May : (place at : ℕ) → Reason → Type 0} where
   -- one field, whose values all take at most a given number of bytes
@@ -100,7 +102,7 @@ module _ {file : List ℕ} {May : (place at : ℕ) → Reason → Type 0} where
   -- what reading gives
   pub comes-to :
       {A : Type 0} {P : A → (place at : ℕ) → Type 0} {reader : Reader A} {place at : ℕ} → Along file May P reader place at →
-      Came file May P (reads reader place (run (drop at file)))
+      Came file May P (reads reader file place at)
   comes-to {A} {P} {reader} {place} {at} along = by-way along (goes-over file reader place at)
     where
       by-way :
@@ -112,12 +114,11 @@ module _ {file : List ℕ} {May : (place at : ℕ) → Reason → Type 0} where
       by-way (needed may more) (stops {at} {k} e) = has-fault (faults file at k e .1)
 
   -- and what the whole file gives
-  pub at-end : {A : Type 0} {P : A → (place at : ℕ) → Type 0} {outcome : Read A} → Came file May P outcome → Ended file May P (ended outcome)
-  at-end {P} (came {what} {place} {at} p) = by-run (run (drop at file))
+  pub at-end : {A : Type 0} {P : A → (place at : ℕ) → Type 0} {outcome : Read A} → Came file May P outcome → Ended file May P (ended file outcome)
+  at-end {P} (came {what} {place} {at} p) = by-end (ltb at (length file)) refl
     where
-      by-run : (left : Run) → Ended file May P (ended (read what place left))
-      by-run over = none-left p
-      by-run (fault k) = bytes-left p
-      by-run (number v rest) = bytes-left p
+      by-end : (t : Bool) → ltb at (length file) ≡ t → Ended file May P (cond t (refused (notice (numberOf BytesAfter) place at)) (read what place at))
+      by-end true more = bytes-left p
+      by-end false none = none-left p (ltb-false at (length file) none)
   at-end (not-allowed may) = not-read (not-allowed may)
   at-end (has-fault small) = not-read (has-fault small)

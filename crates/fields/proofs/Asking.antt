@@ -1,28 +1,28 @@
 -- What a reader asks of a file, number by number: its tests at their places, and what is there if none of them fails; over any form of answer.
 use Prim.Native.Nat.{ℕ, zero, suc, _+_, _≤_}
-use mathlib.Core.Path.{_≡_, refl, ap, _∙_}
+use mathlib.Core.Path.{_≡_, refl, ap, subst, _∙_}
 use mathlib.Core.Bool.{Bool, true, false, not, cond}
 use mathlib.Core.List.{List, _∷_, _++_, append-assoc}
 use native.Mathlib.Decide.{decLe}
 use native.Mathlib.Omega.{arith}
-use lib.ListN.{length, drop}
+use lib.ListN.{length}
 use borrow.Author.Tests.{lt-ltb, le-ltb}
 use Rattle.number.specs.Reading.{Found as NumberAnswer}
 use Rattle.number.specs.Reading.Found.{number as oneNumber, fault as oneFault}
 use Rattle.number.specs.Counting.{startOf, numberAt, valueAt}
 use Rattle.number.proofs.Laws.{faults}
-use Rattle.number.proofs.Counting.{first-start, next-start, value-is}
+use Rattle.number.proofs.Counting.{first-start, next-start, start-told, value-is}
 use Rattle.fields.specs.declared.reason.Reason.{Reason}
 use Rattle.fields.specs.Reasons.{numberOf}
 use Rattle.fields.specs.Ranges.{anyAmount}
-use Rattle.fields.specs.Run.{over, run}
+use Rattle.fields.specs.Answers.{Notice, notice}
 use Rattle.fields.specs.Readers.{Reader, return, needs, _>>=_, each, Read, read, refused, reads}
 use Rattle.fields.specs.Files.{ended, fileRead}
 use Rattle.fields.specs.Tests.{Test, testedBy, numberTests, fieldTests, endTest, listed, testsOfEach}
 use Rattle.fields.proofs.FieldByField.{Comes, comes, done as all-read, goes, fails as not-allowed, stops}
 use Rattle.fields.proofs.EndOfFile.{more-left, none-left}
 
-module _ {Answer : Type 0} (refuse : (number place : ℕ) → Answer) (file : List ℕ) where
+module _ {Answer : Type 0} (refuse : Notice → Answer) (file : List ℕ) where
   -- ---- what a reader asks of the file from number k on: its tests one after another, before those that come behind it;
   -- what it gives if none of its own fails; and the number after its last
   pub data Asks {A : Type 0} : Reader A → (k : ℕ) → List Test → A → (end : ℕ) → List Test → Type 0 where
@@ -31,32 +31,32 @@ module _ {Answer : Type 0} (refuse : (number place : ℕ) → Answer) (file : Li
     -- it needs a number: after the tests for 1, 2 and 3, that of the field decides whether the others follow
     needed :
         {reason : Reason} {allowed : ℕ → Bool} {then : ℕ → Reader A} {k next end : ℕ} {own tests left : List Test} {what : A} → suc k ≡ next →
-        ((answer : Answer) → testedBy refuse own answer ≡ cond (allowed (valueAt file k)) (testedBy refuse tests answer) (refuse (numberOf reason) k)) →
+        ((answer : Answer) → testedBy refuse own answer ≡ cond (allowed (valueAt file k)) (testedBy refuse tests answer) (refuse (notice (numberOf reason) k (startOf file k)))) →
         Asks (then (valueAt file k)) next tests what end left → Asks (needs reason allowed then) k (numberTests file k ++ own) what end left
 
-  -- what it finds: its own tests pass, and it gives what is there; or one fails, and it refuses with that one's number and place
+  -- what it finds: its own tests pass, and it gives what is there; or one fails, and it refuses with that one's notice
   pub data Found {A : Type 0} (reader : Reader A) (k : ℕ) (tests : List Test) (what : A) (end : ℕ) (left : List Test) : Type 0 where
     passes :
-        Comes file reader k (startOf file k) (read what end (run (drop (startOf file end) file))) →
+        Comes file reader k (startOf file k) (read what end (startOf file end)) →
         ((answer : Answer) → testedBy refuse tests answer ≡ testedBy refuse left answer) → Found reader k tests what end left
     fails :
-        {number place : ℕ} → Comes file reader k (startOf file k) (refused number place) →
-        ((answer : Answer) → testedBy refuse tests answer ≡ refuse number place) → Found reader k tests what end left
+        {notice : Notice} → Comes file reader k (startOf file k) (refused notice) →
+        ((answer : Answer) → testedBy refuse tests answer ≡ refuse notice) → Found reader k tests what end left
 
   -- ---- the whole file against its tests, of which the last is that nothing follows: all pass, and it has what is at its places; or
   -- one fails, and it is refused for that one
   pub data Tried {A : Type 0} (reader : Reader A) (tests : List Test) (what : A) (count : ℕ) (left : List Test) : Type 0 where
     all-pass :
-        fileRead reader file ≡ read what count over → ((answer : Answer) → testedBy refuse tests answer ≡ testedBy refuse left answer) →
+        fileRead reader file ≡ read what count (startOf file count) → ((answer : Answer) → testedBy refuse tests answer ≡ testedBy refuse left answer) →
         Tried reader tests what count left
     one-fails :
-        {number place : ℕ} → fileRead reader file ≡ refused number place →
-        ((answer : Answer) → testedBy refuse tests answer ≡ refuse number place) → Tried reader tests what count left
+        {notice : Notice} → fileRead reader file ≡ refused notice →
+        ((answer : Answer) → testedBy refuse tests answer ≡ refuse notice) → Tried reader tests what count left
 
   -- ---- a fault is found by its own test
   fault-fails :
       (k found : ℕ) (rest : List Test) (answer : Answer) → numberAt file k ≡ oneFault found →
-      testedBy refuse (numberTests file k ++ rest) answer ≡ refuse found k
+      testedBy refuse (numberTests file k ++ rest) answer ≡ refuse (notice found k (startOf file k))
   unfolding testedBy
   fault-fails k zero rest answer e = absurd (omega (arith, faults file (startOf file k) 0 e .0))
   fault-fails k (suc zero) rest answer e = rw e refl
@@ -65,7 +65,7 @@ module _ {Answer : Type 0} (refuse : (number place : ℕ) → Answer) (file : Li
   fault-fails k (suc (suc (suc (suc more)))) rest answer e =
       absurd (omega (arith, faults file (startOf file k) (suc (suc (suc (suc more)))) e .1))
 
-module _ {Answer : Type 0} {refuse : (number place : ℕ) → Answer} {file : List ℕ} where
+module _ {Answer : Type 0} {refuse : Notice → Answer} {file : List ℕ} where
   -- ---- what a reader asks it finds, and that is one of the two
   pub found :
       {A : Type 0} {reader : Reader A} {k end : ℕ} {tests left : List Test} {what : A} → Asks refuse file reader k tests what end left →
@@ -78,7 +78,7 @@ module _ {Answer : Type 0} {refuse : (number place : ℕ) → Answer} {file : Li
       -- after a number that is there, the test of its field decides
       decides :
           (v n : ℕ) (t : Bool) → numberAt file k ≡ oneNumber v n → allowed v ≡ t → (answer : Answer) →
-          testedBy refuse (numberTests file k ++ own) answer ≡ cond t (testedBy refuse tests answer) (refuse (numberOf reason) k)
+          testedBy refuse (numberTests file k ++ own) answer ≡ cond t (testedBy refuse tests answer) (refuse (notice (numberOf reason) k (startOf file k)))
       decides v n t q h answer = rw (q, ← h) (rw (value-is file k q) at (own-says answer))
 
       -- and the next number starts where it ends
@@ -92,14 +92,20 @@ module _ {Answer : Type 0} {refuse : (number place : ℕ) → Answer} {file : Li
       by-test :
           (v n : ℕ) (t : Bool) → numberAt file k ≡ oneNumber v n → allowed v ≡ t → Found refuse file (then (valueAt file k)) next tests what end left →
           Found refuse file (needs reason allowed then) k (numberTests file k ++ own) what end left
-      by-test v n false q h later = fails (not-allowed q h) (decides v n false q h)
+      by-test v n false q h later =
+          let way : Comes file (needs reason allowed then) k (startOf file k) (refused (notice (numberOf reason) k (startOf file k))) =
+          subst (λ (offset : ℕ). Comes file (needs reason allowed then) k (startOf file k) (refused (notice (numberOf reason) k offset))) (start-told file k) (not-allowed q h) in
+          fails way (decides v n false q h)
       by-test v n true q h (passes comes says) = passes (goes-on v n q h comes) (λ answer. decides v n true q h answer ∙ says answer)
       by-test v n true q h (fails comes says) = fails (goes-on v n q h comes) (λ answer. decides v n true q h answer ∙ says answer)
 
       by-number :
           (a : NumberAnswer) → numberAt file k ≡ a → Found refuse file (then (valueAt file k)) next tests what end left →
           Found refuse file (needs reason allowed then) k (numberTests file k ++ own) what end left
-      by-number (oneFault fault) q later = fails (stops q) (λ answer. fault-fails refuse file k fault own answer q)
+      by-number (oneFault fault) q later =
+          let way : Comes file (needs reason allowed then) k (startOf file k) (refused (notice fault k (startOf file k))) =
+          subst (λ (offset : ℕ). Comes file (needs reason allowed then) k (startOf file k) (refused (notice fault k offset))) (start-told file k) (stops q) in
+          fails way (λ answer. fault-fails refuse file k fault own answer q)
       by-number (oneNumber v n) q later = by-test v n (allowed v) q refl later
 
   -- ---- a field with a test, and one that takes any amount
@@ -112,7 +118,7 @@ module _ {Answer : Type 0} {refuse : (number place : ℕ) → Answer} {file : Li
       where
         by-test :
             (answer : Answer) (t : Bool) →
-            cond (not t) (refuse (numberOf reason) k) (testedBy refuse tests answer) ≡ cond t (testedBy refuse tests answer) (refuse (numberOf reason) k)
+            cond (not t) (refuse (notice (numberOf reason) k (startOf file k))) (testedBy refuse tests answer) ≡ cond t (testedBy refuse tests answer) (refuse (notice (numberOf reason) k (startOf file k)))
         by-test answer true = refl
         by-test answer false = refl
 
@@ -163,17 +169,17 @@ module _ {Answer : Type 0} {refuse : (number place : ℕ) → Answer} {file : Li
       after = startOf file count
 
       -- what reading the file from its first number on gives
-      from-first : {outcome : Read A} → Comes file reader 0 (startOf file 0) outcome → reads reader 0 (run file) ≡ outcome
+      from-first : {outcome : Read A} → Comes file reader 0 (startOf file 0) outcome → reads reader file 0 0 ≡ outcome
       from-first come = comes file (rw (first-start file) at come)
 
       by-found : Found refuse file reader 0 tests what count (endTest file count ∷ left) → Tried refuse file reader tests what count left
-      by-found (fails come says) = one-fails (ap ended (from-first come)) says
+      by-found (fails come says) = one-fails (ap (ended file) (from-first come)) says
       by-found (passes come says) = by-end (decLe (length file) after)
         where
           -- 9, if bytes are left behind the last number
           by-end : Dec (length file ≤ after) → Tried refuse file reader tests what count left
           by-end (yes h) =
-              all-pass (ap ended (from-first come) ∙ none-left what count file after h) (λ answer. says answer ∙ rw (le-ltb after (length file) h) refl)
+              all-pass (ap (ended file) (from-first come) ∙ none-left what count file after h) (λ answer. says answer ∙ rw (le-ltb after (length file) h) refl)
           by-end (no h) =
-              one-fails (ap ended (from-first come) ∙ more-left what count file after (omega arith))
+              one-fails (ap (ended file) (from-first come) ∙ more-left what count file after (omega arith))
               (λ answer. says answer ∙ rw (lt-ltb after (length file) (omega arith)) refl)

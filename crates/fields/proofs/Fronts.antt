@@ -4,16 +4,15 @@ use mathlib.Core.Path.{_≡_, refl, sym, ap, _∙_}
 use mathlib.Core.List.{List}
 use native.Mathlib.Decide.{decLe}
 use native.Mathlib.Omega.{arith}
-use lib.ListN.{length, take, drop, length-take}
+use lib.ListN.{length, take, length-take}
 use lib.Seq.{take-take}
 use Rattle.number.specs.Groups.{mostGroups}
-use Rattle.number.specs.Reading.{readAt}
+use Rattle.number.specs.Reading.{readAt, offsetAt}
 use Rattle.number.proofs.Laws.{only-five-bytes}
 use Rattle.fields.specs.declared.reason.Reason.{Reason}
-use Rattle.fields.specs.Run.{run}
+use Rattle.fields.specs.Answers.{Notice, notice}
 use Rattle.fields.specs.Readers.{Reader, Read, read, refused, reads}
 use Rattle.fields.specs.Files.{ended, fileRead}
-use Rattle.fields.proofs.Runs.{number-at}
 use Rattle.fields.proofs.FieldByField.{Comes, done as all-read, goes, fails, stops, comes, goes-over}
 use Rattle.fields.proofs.EndOfFile.{more-left, none-left}
 use Rattle.fields.proofs.Along.{Along, done, needed}
@@ -29,17 +28,21 @@ module _ (file : List ℕ) (most n : ℕ) (longer : most < n) where
       ∙ ap (λ (s : List ℕ). readAt s at) (take-take (at + mostGroups) n file (omega arith))
       ∙ only-five-bytes file at
 
-  -- both are read, to the same place, or both are refused
+  -- and it has the same offset
+  same-offset : (at : ℕ) → at + mostGroups ≤ most → offsetAt front at ≡ offsetAt file at
+  same-offset at enough = omega (arith, length-take n file)
+
+  -- both are read, to the same place and byte, or both are refused
   pub data Same {A : Type 0} : Read A → Read A → Type 0 where
-    both-read : {what : A} {place at : ℕ} → at ≤ most → Same (read what place (run (drop at front))) (read what place (run (drop at file)))
-    both-refused : {refusal place : ℕ} → Same (refused refusal place) (refused refusal place)
+    both-read : {what : A} {place at : ℕ} → at ≤ most → Same (read what place at) (read what place at)
+    both-refused : {notice : Notice} → Same (refused notice) (refused notice)
 
   -- one byte more than the longest file has shows whether bytes follow
-  ended-alike : {A : Type 0} {r s : Read A} → Same r s → ended r ≡ ended s
+  ended-alike : {A : Type 0} {r s : Read A} → Same r s → ended front r ≡ ended file s
   ended-alike both-refused = refl
   ended-alike (both-read {what} {place} {at} h) = by-end (decLe (length file) at)
     where
-      by-end : Dec (length file ≤ at) → ended (read what place (run (drop at front))) ≡ ended (read what place (run (drop at file)))
+      by-end : Dec (length file ≤ at) → ended front (read what place at) ≡ ended file (read what place at)
       by-end (yes q) = none-left what place front at (omega (arith, length-take n file)) ∙ sym (none-left what place file at q)
       by-end (no q) = more-left what place front at (omega (arith, length-take n file)) ∙ sym (more-left what place file at (omega arith))
 
@@ -51,18 +54,20 @@ module _ (file : List ℕ) (most n : ℕ) (longer : most < n) where
     where
       by-way :
           {reader : Reader A} {place at : ℕ} {outcome : Read A} → Along file May P reader place at → Comes file reader place at outcome →
-          Same (reads reader place (run (drop at front))) outcome
+          Same (reads reader front place at) outcome
       unfolding reads
       by-way (done {what} {place} {at} p) all-read = both-read (inside what place at p)
       by-way (needed {reason} {place} {at} may more) (goes {v} {n} e h later) =
-          rw (number-at front at v n (same-number at (room place at reason may) ∙ e), h) (by-way (more v n e h) later)
+          rw (same-number at (room place at reason may) ∙ e, h) (by-way (more v n e h) later)
       by-way (needed {reason} {place} {at} may more) (fails e h) =
-          rw (comes front (fails (same-number at (room place at reason may) ∙ e) h)) both-refused
+          let enough = room place at reason may in
+          rw (comes front (fails (same-number at enough ∙ e) h), same-offset at enough) both-refused
       by-way (needed {reason} {place} {at} may more) (stops e) =
-          rw (comes front (stops (same-number at (room place at reason may) ∙ e))) both-refused
+          let enough = room place at reason may in
+          rw (comes front (stops (same-number at enough ∙ e)), same-offset at enough) both-refused
 
       -- gives the same for both
-      pub alike : {reader : Reader A} → Along file May P reader 0 0 → Same (reads reader 0 (run front)) (reads reader 0 (run file))
+      pub alike : {reader : Reader A} → Along file May P reader 0 0 → Same (reads reader front 0 0) (reads reader file 0 0)
       alike {reader} along = by-way along (goes-over file reader 0 0)
 
       -- also with the end of the file

@@ -3,8 +3,7 @@ pub mod Sums
 pub mod Ranges
 -- A refusal is no acceptance.
 pub mod Answers
--- What a file's bytes are as a run of numbers, and how a reader goes over it, field by field.
-pub mod Runs
+-- How a reader goes over a file, field by field.
 pub mod FieldByField
 pub mod EndOfFile
 -- What the code takes, from a spot on: for one field, the numbers of one record, and records one after another.
@@ -17,6 +16,7 @@ pub mod Stages
 -- What is known along the reading of a file.
 pub mod Along
 pub mod Consumed
+pub mod Offsets
 pub mod Fronts
 -- Tests in their order, and those that a reader asks of a file.
 pub mod Testing

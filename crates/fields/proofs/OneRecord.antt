@@ -14,6 +14,7 @@ use Rattle.fields.specs.declared.reason.Reason.{Reason}
 use Rattle.fields.specs.declared.reason.Reason.the-variants.{Ends}
 use Rattle.fields.specs.declared.spot.Spot.{Spot}
 use Rattle.fields.specs.Reasons.{numberOf}
+use Rattle.fields.specs.Answers.{notice}
 use Rattle.fields.specs.Readers.{Reader, return, needs, onward, allowsNext}
 use Rattle.fields.specs.Spots.{refusalAt}
 use Rattle.fields.specs.Reaching.{whole, stopped, readsFrom, stoppedBy}
@@ -118,12 +119,12 @@ module _ {A : Type 0} where
       module _ (v : ℕ) (next : Spot) (there : ValueThere file at v next) where
         -- its field does not allow it
         pub next-wrong :
-            allowsNext (onward reader (take f values)) v ≡ false → readsFrom reader file start ≡ stopped (numberOf (getD reasons f Ends)) (at .place)
+            allowsNext (onward reader (take f values)) v ≡ false → readsFrom reader file start ≡ stopped (notice (numberOf (getD reasons f Ends)) (at .place) (at .byte))
         next-wrong wrong = so-far .comes-to ∙ by-need (onward reader (take f values)) next-needed wrong
           where
             by-need :
                 {reason : Reason} (rest : Reader A) → Needing rest reason → allowsNext rest v ≡ false →
-                readsFrom rest file at ≡ stopped (numberOf reason) (at .place)
+                readsFrom rest file at ≡ stopped (notice (numberOf reason) (at .place) (at .byte))
             by-need (needs reason allowed then) needing is = spot-wrong file reason allowed then at v next there is
 
         -- it is allowed: one number more is taken
@@ -157,4 +158,4 @@ module _ {A : Type 0} where
         allowsNext (onward reader (take f values)) v ≡ false → readsFrom reader file start ≡ stoppedBy (refusalAt at reason)
     one-wrong reason wants more v next there wrong =
         next-wrong (replicate wanted reason) wants (length-replicate wanted reason) more v next there wrong
-        ∙ ap (λ (r : Reason). stopped (numberOf r) (at .place)) (getD-replicate wanted f reason Ends more)
+        ∙ ap (λ (r : Reason). stopped (notice (numberOf r) (at .place) (at .byte))) (getD-replicate wanted f reason Ends more)

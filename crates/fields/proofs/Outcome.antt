@@ -14,7 +14,7 @@ use Rattle.fields.specs.declared.spot.Spot.{Spot}
 use Rattle.fields.specs.declared.taking.Taken.{Taken}
 use Rattle.fields.specs.declared.taking.Taken.the-variants as Taken
 use Rattle.fields.specs.Reasons.{numberOf, ReasonNumberPromise}
-use Rattle.fields.specs.Answers.{said, RefusedPromise, AnswerRefusalPromise, AnswerPlacePromise}
+use Rattle.fields.specs.Answers.{Notice, noticeOf, said, RefusedPromise, AnswerRefusalPromise, AnswerPlacePromise, AnswerOffsetPromise}
 use Rattle.fields.specs.Spots.{took, SpotFirstPromise, SpotRefusalPromise, TakePromise, NothingAfterPromise}
 
 -- ---- each number has one reason
@@ -58,20 +58,22 @@ numbered-above reason = by-number (numberOf reason) refl
         absurd (omega (arith, sym (ap (λ (r : Reason). numberOf r) first) ∙ is))
 
 -- ---- so two refusals, two answers or two takings that say the same are the same
-pub refusal-once : (a b : Refusal) → numberOf (a .reason) ≡ numberOf (b .reason) → a .place ≡ b .place → a ≡ b
-refusal-once a b number place = ap₂ (λ (r : Reason) (p : ℕ). record { reason = r; place = p }) (numbered-once (a .reason) (b .reason) number) place
+pub refusal-once : (a b : Refusal) → noticeOf a ≡ noticeOf b → a ≡ b
+refusal-once a b same =
+    ap₂ (λ (r : Reason) (n : Notice). record { reason = r; place = n .place; offset = n .offset })
+    (numbered-once (a .reason) (b .reason) (ap (λ (n : Notice). n .number) same)) same
 
 pub said-once : (a b : Answer) → said a ≡ said b → a ≡ b
 said-once Accepted Accepted e = refl
 said-once Accepted (Refused b) e = absurd (true≢false (cc))
 said-once (Refused a) Accepted e = absurd (true≢false (cc))
-said-once (Refused a) (Refused b) e = ap Refused (refusal-once a b (cc) (cc))
+said-once (Refused a) (Refused b) e = ap Refused (refusal-once a b (cc))
 
 pub took-once : (a b : Taken) → took a ≡ took b → a ≡ b
 took-once (Taken.Value v next) (Taken.Value w next') e = ap₂ Taken.Value (cc) (cc)
 took-once (Taken.Value v next) (Taken.Refused b) e = absurd (true≢false (cc))
 took-once (Taken.Refused a) (Taken.Value w next') e = absurd (true≢false (cc))
-took-once (Taken.Refused a) (Taken.Refused b) e = ap Taken.Refused (refusal-once a b (cc) (cc))
+took-once (Taken.Refused a) (Taken.Refused b) e = ap Taken.Refused (refusal-once a b (cc))
 
 -- ---- the public functions
 -- `take`: two answers that meet its promise, of one file at one spot, are the same
@@ -82,18 +84,22 @@ one-taken file at r s p q = took-once r s (p ∙ sym q)
 pub one-end : (file : List ℕ) (at : Spot) (r s : Answer) → NothingAfterPromise file at r → NothingAfterPromise file at s → r ≡ s
 one-end file at r s p q = said-once r s (p ∙ sym q)
 
--- `Reason::number`, `Answer::refused`, `Answer::refusal`, `Answer::place`, `Spot::first` and `Spot::refusal`: their promises give the result itself
+-- `Reason::number`, `Answer::refused`, `Answer::refusal`, `Answer::place`, `Answer::offset`, `Spot::first` and `Spot::refusal`: their promises give the result itself
 pub one-number : (reason : Reason) (r s : ℕ) → ReasonNumberPromise reason r → ReasonNumberPromise reason s → r ≡ s
 one-number reason r s p q = p ∙ sym q
 
-pub one-refused : (reason : Reason) (place : ℕ) (r s : Answer) → RefusedPromise reason place r → RefusedPromise reason place s → r ≡ s
-one-refused reason place r s p q = p ∙ sym q
+pub one-refused :
+    (reason : Reason) (place offset : ℕ) (r s : Answer) → RefusedPromise reason place offset r → RefusedPromise reason place offset s → r ≡ s
+one-refused reason place offset r s p q = p ∙ sym q
 
 pub one-refusal : (answer : Answer) (r s : ℕ) → AnswerRefusalPromise answer r → AnswerRefusalPromise answer s → r ≡ s
 one-refusal answer r s p q = p ∙ sym q
 
 pub one-place : (answer : Answer) (r s : ℕ) → AnswerPlacePromise answer r → AnswerPlacePromise answer s → r ≡ s
 one-place answer r s p q = p ∙ sym q
+
+pub one-offset : (answer : Answer) (r s : ℕ) → AnswerOffsetPromise answer r → AnswerOffsetPromise answer s → r ≡ s
+one-offset answer r s p q = p ∙ sym q
 
 pub one-first : (r s : Spot) → SpotFirstPromise r → SpotFirstPromise s → r ≡ s
 one-first r s p q = p ∙ sym q

@@ -6,6 +6,7 @@ use native.Mathlib.Omega.{arith}
 use lib.ListN.{length, length-append}
 use Rattle.fields.specs.declared.answer.Refusal.{Refusal}
 use Rattle.fields.specs.declared.spot.Spot.{Spot}
+use Rattle.fields.specs.Answers.{Notice}
 use Rattle.fields.specs.Readers.{Reader, return, _>>=_, each}
 use Rattle.fields.specs.Reaching.{Reach, whole, stopped, readsFrom, stoppedBy}
 use Rattle.fields.proofs.Reaching.{reached, one-then-other, after-whole, after-stopped}
@@ -14,17 +15,17 @@ module _ {A : Type 0} where
   -- records that were read before those of the outcome
   abbrev pub behind : List A → Reach (List A) → Reach (List A)
   behind done (whole records next) = whole (done ++ records) next
-  behind done (stopped number place) = stopped number place
+  behind done (stopped notice) = stopped notice
 
   -- records behind others
   behind-behind : (a b : List A) (outcome : Reach (List A)) → behind a (behind b outcome) ≡ behind (a ++ b) outcome
   behind-behind a b (whole records next) = ap (λ (l : List A). whole l next) (sym (append-assoc a b records))
-  behind-behind a b (stopped number place) = refl
+  behind-behind a b (stopped notice) = refl
 
   -- behind none
   behind-none : (outcome : Reach (List A)) → behind [] outcome ≡ outcome
   behind-none (whole records next) = refl
-  behind-none (stopped number place) = refl
+  behind-none (stopped notice) = refl
 
   -- ---- the first of a count of records is read, and the others behind it; or it is refused
   module _ (one : ℕ → Reader A) (own count : ℕ) (file : List ℕ) (at : Spot) where
@@ -44,12 +45,12 @@ module _ {A : Type 0} where
             (outcome : Reach (List A)) →
             reached outcome (λ records to. readsFrom (return (what ∷ records)) file to) ≡ behind (what ∷ []) outcome
         in-front (whole records to) = refl
-        in-front (stopped number place) = refl
+        in-front (stopped notice) = refl
 
     each-refused :
-        (number place : ℕ) → readsFrom (one own) file at ≡ stopped number place → readsFrom (each one own (suc count)) file at ≡ stopped number place
+        (notice : Notice) → readsFrom (one own) file at ≡ stopped notice → readsFrom (each one own (suc count)) file at ≡ stopped notice
     unfolding each
-    each-refused number place e = after-stopped (one own) others file at number place e
+    each-refused notice e = after-stopped (one own) others file at notice e
 
   -- ---- so far p of the records are read, and the next one starts at a spot
   module _ (one : ℕ → Reader A) (file : List ℕ) (start : Spot) (count : ℕ) where
@@ -97,7 +98,7 @@ module _ {A : Type 0} where
     pub one-refused :
         p < count → (refusal : Refusal) → readsFrom (one (suc p)) file at ≡ stoppedBy refusal → readsFrom (each one 1 count) file start ≡ stoppedBy refusal
     one-refused more refusal e =
-        one-left more ∙ ap (behind done) (each-refused one (suc p) (count - (p + 1)) file at _ (refusal .place) e)
+        one-left more ∙ ap (behind done) (each-refused one (suc p) (count - (p + 1)) file at _ e)
 
     -- none is left: all are read
     pub none-left : count ≤ p → readsFrom (each one 1 count) file start ≡ whole done at

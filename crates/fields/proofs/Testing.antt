@@ -4,14 +4,14 @@ use mathlib.Core.Path.{_≡_, refl, ap}
 use mathlib.Core.Bool.{Bool, true, false, cond}
 use mathlib.Core.List.{List, [], _∷_, _++_}
 use lib.ListN.{length, getD}
-use Rattle.fields.specs.Reasons.{numberOf}
-use Rattle.fields.specs.Tests.{Test, testedBy, FirstFails, here, later, NoneFails, end, holds, listed}
+use Rattle.fields.specs.Answers.{Notice}
+use Rattle.fields.specs.Tests.{Test, refusalBy, testedBy, FirstFails, here, later, NoneFails, end, holds, listed}
 use Rattle.fields.proofs.Outcome.{numbered-above}
 
-module _ {A : Type 0} (refuse : (number place : ℕ) → A) where
+module _ {A : Type 0} (refuse : Notice → A) where
   -- ---- the first test that fails gives the answer
   pub first-answers :
-      {tests : List Test} {number place : ℕ} (answer : A) → FirstFails tests number place → testedBy refuse tests answer ≡ refuse number place
+      {tests : List Test} {notice : Notice} (answer : A) → FirstFails tests notice → testedBy refuse tests answer ≡ refuse notice
   unfolding testedBy
   first-answers answer (here h) = rw h
   first-answers answer (later h more) = rw h (first-answers answer more)
@@ -24,40 +24,35 @@ module _ {A : Type 0} (refuse : (number place : ℕ) → A) where
 
   -- and if the outcome is no refusal, none fails
   pub none-fails :
-      (tests : List Test) (answer other : A) → ((number place : ℕ) → refuse number place ≡ other → ⊥) → testedBy refuse tests answer ≡ other →
+      (tests : List Test) (answer other : A) → ((notice : Notice) → refuse notice ≡ other → ⊥) → testedBy refuse tests answer ≡ other →
       NoneFails tests
   unfolding testedBy
   none-fails [] answer other no-refusal e = end
   none-fails (test ∷ tests) answer other no-refusal e = by-test (test .fails) refl e (none-fails tests answer other no-refusal)
     where
       by-test :
-          (t : Bool) → test .fails ≡ t → cond t (refuse (numberOf (test .reason)) (test .place)) (testedBy refuse tests answer) ≡ other →
+          (t : Bool) → test .fails ≡ t → cond t (refuse (refusalBy test)) (testedBy refuse tests answer) ≡ other →
           (testedBy refuse tests answer ≡ other → NoneFails tests) → NoneFails (test ∷ tests)
-      by-test true h e again = absurd (no-refusal _ _ e)
+      by-test true h e again = absurd (no-refusal _ e)
       by-test false h e again = holds h (again e)
 
-  -- ---- if the outcome is a refusal, and the given answer is not that one, a test fails that has its number and place
+  -- ---- if the outcome is a refusal, and the given answer is not that one, a test fails that has its notice
   pub first-fails :
-      ((n p m q : ℕ) → refuse n p ≡ refuse m q → (n ≡ m) × (p ≡ q)) → (tests : List Test) (number place : ℕ) (answer : A) →
-      (answer ≡ refuse number place → ⊥) → testedBy refuse tests answer ≡ refuse number place → FirstFails tests number place
+      ((one other : Notice) → refuse one ≡ refuse other → one ≡ other) → (tests : List Test) (notice : Notice) (answer : A) →
+      (answer ≡ refuse notice → ⊥) → testedBy refuse tests answer ≡ refuse notice → FirstFails tests notice
   unfolding testedBy
-  first-fails told [] number place answer no-refusal e = absurd (no-refusal e)
-  first-fails told (test ∷ tests) number place answer no-refusal e =
-      by-test (test .fails) refl e (first-fails told tests number place answer no-refusal)
+  first-fails told [] notice answer no-refusal e = absurd (no-refusal e)
+  first-fails told (test ∷ tests) notice answer no-refusal e =
+      by-test (test .fails) refl e (first-fails told tests notice answer no-refusal)
     where
       by-test :
-          (t : Bool) → test .fails ≡ t →
-          cond t (refuse (numberOf (test .reason)) (test .place)) (testedBy refuse tests answer) ≡ refuse number place →
-          (testedBy refuse tests answer ≡ refuse number place → FirstFails tests number place) → FirstFails (test ∷ tests) number place
-      by-test true h e again =
-          let same = told (numberOf (test .reason)) (test .place) number place e in
-          let number-is = same .0 in
-          let place-is = same .1 in
-          rw (← number-is, ← place-is) (here h)
+          (t : Bool) → test .fails ≡ t → cond t (refuse (refusalBy test)) (testedBy refuse tests answer) ≡ refuse notice →
+          (testedBy refuse tests answer ≡ refuse notice → FirstFails tests notice) → FirstFails (test ∷ tests) notice
+      by-test true h e again = let same = told (refusalBy test) notice e in rw (← same) (here h)
       by-test false h e again = later h (again e)
 
 -- ---- what a test refuses with is never 0
-pub first-numbered : {tests : List Test} {number place : ℕ} → FirstFails tests number place → 0 < number
+pub first-numbered : {tests : List Test} {notice : Notice} → FirstFails tests notice → 0 < notice .number
 first-numbered (here {test} h) = numbered-above (test .reason)
 first-numbered (later h more) = first-numbered more
 

@@ -1,4 +1,4 @@
--- What an answer of the code says: accepted, or the number and place of a refusal.
+-- What an answer of the code says: accepted, or the number, place and offset of a refusal.
 use Prim.Native.Nat.{ℕ}
 use mathlib.Core.Path.{_≡_}
 use Rattle.fields.specs.declared.answer.Answer.{Answer}
@@ -7,18 +7,31 @@ use Rattle.fields.specs.declared.answer.Refusal.{Refusal}
 use Rattle.fields.specs.declared.reason.Reason.{Reason}
 use Rattle.fields.specs.Reasons.{numberOf}
 
--- Accepted; or refused, with number and place (rule 8.1).
+-- What a refusal tells: the number of its reason, its place, and its offset, the byte of the file where to look (rules 8.1, 8.2 and 8.9).
+pub record Notice : Type 0 where
+  pub number : ℕ
+  pub place : ℕ
+  pub offset : ℕ
+
+abbrev pub notice : (number place offset : ℕ) → Notice
+notice number place offset = record { number = number; place = place; offset = offset }
+
+-- Accepted; or refused, with a notice (rule 8.1).
 pub data Verdict : Type 0 where
   accepts : Verdict
-  refuses : (number place : ℕ) → Verdict
+  refuses : Notice → Verdict
 
--- Refused for a reason, at a place.
-abbrev pub refusedFor : Reason → ℕ → Answer
-refusedFor reason place = Refused (record { reason = reason; place = place })
+-- Refused for a reason, at a place and an offset.
+abbrev pub refusedFor : Reason → (place offset : ℕ) → Answer
+refusedFor reason place offset = Refused (record { reason = reason; place = place; offset = offset })
 
--- What a refusal says: the number of its reason, and its place.
+-- The notice of a refusal of the code.
+abbrev pub noticeOf : Refusal → Notice
+noticeOf refusal = notice (numberOf (refusal .reason)) (refusal .place) (refusal .offset)
+
+-- What a refusal says.
 abbrev pub refusing : Refusal → Verdict
-refusing refusal = refuses (numberOf (refusal .reason)) (refusal .place)
+refusing refusal = refuses (noticeOf refusal)
 
 -- What an answer says.
 abbrev pub said : Answer → Verdict
@@ -28,17 +41,22 @@ said (Refused refusal) = refusing refusal
 -- The number of refusal, and 0 for an accepted file (rule 8.1).
 abbrev pub refusalNumber : Verdict → ℕ
 refusalNumber accepts = 0
-refusalNumber (refuses number place) = number
+refusalNumber (refuses notice) = notice .number
 
 -- The place of the refusal, and 0 for an accepted file (rule 8.2).
 abbrev pub refusalPlace : Verdict → ℕ
 refusalPlace accepts = 0
-refusalPlace (refuses number place) = place
+refusalPlace (refuses notice) = notice .place
+
+-- The offset of the refusal, and 0 for an accepted file (rule 8.9).
+abbrev pub refusalOffset : Verdict → ℕ
+refusalOffset accepts = 0
+refusalOffset (refuses notice) = notice .offset
 
 -- ---- what the public functions promise
--- `Answer::refused`: refused for that reason, at that place (rule 8.1).
-abbrev pub RefusedPromise : Reason → (place : ℕ) → Answer → Type 0
-RefusedPromise reason place r = r ≡ refusedFor reason place
+-- `Answer::refused`: refused for that reason, at that place and offset (rule 8.1).
+abbrev pub RefusedPromise : Reason → (place offset : ℕ) → Answer → Type 0
+RefusedPromise reason place offset r = r ≡ refusedFor reason place offset
 
 -- `Answer::refusal`: the number of refusal, or 0 (rule 8.1).
 abbrev pub AnswerRefusalPromise : Answer → ℕ → Type 0
@@ -47,3 +65,7 @@ AnswerRefusalPromise answer r = r ≡ refusalNumber (said answer)
 -- `Answer::place`: the place, or 0 (rule 8.2).
 abbrev pub AnswerPlacePromise : Answer → ℕ → Type 0
 AnswerPlacePromise answer r = r ≡ refusalPlace (said answer)
+
+-- `Answer::offset`: the offset, or 0 (rule 8.9).
+abbrev pub AnswerOffsetPromise : Answer → ℕ → Type 0
+AnswerOffsetPromise answer r = r ≡ refusalOffset (said answer)

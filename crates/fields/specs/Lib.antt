@@ -3,9 +3,8 @@
 -- the reasons to refuse, and what an answer says
 pub mod Reasons
 pub mod Answers
--- the file: a run of numbers, read from its front, field by field
+-- the file: its numbers, read from its front, field by field
 pub mod Ranges
-pub mod Run
 pub mod Readers
 pub mod Files
 -- its tests, each at its place

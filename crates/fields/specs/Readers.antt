@@ -1,12 +1,14 @@
--- Readers of fields: they take a file's numbers in turn, and test each before they take the next (rule 8.3).
+-- Readers of fields: they take a file's numbers in turn, and test each before they take the next (rules 2.1 and 8.3).
 use Prim.Native.Nat.{ℕ, zero, suc}
 use mathlib.Core.Bool.{Bool, true, cond}
 use mathlib.Core.List.{List, [], _∷_}
+use Rattle.number.specs.Reading.{Found, readAt, offsetAt}
+use Rattle.number.specs.Reading.Found.{number as oneNumber, fault as oneFault}
 use Rattle.fields.specs.declared.reason.Reason.{Reason}
 use Rattle.fields.specs.declared.reason.Reason.the-variants.{Ends}
 use Rattle.fields.specs.Reasons.{numberOf}
+use Rattle.fields.specs.Answers.{Notice, notice}
 use Rattle.fields.specs.Ranges.{anyAmount}
-use Rattle.fields.specs.Run.{Run, over, fault, number}
 
 -- A reader is done; or it needs a number, with the test of its field and the reason if that fails, and goes on by the value.
 pub data Reader (A : Type 0) : Type 0 where
@@ -35,25 +37,34 @@ each one own (suc count) = do
   rest ← each one (suc own) count
   return (what ∷ rest)
 
--- What reading gives: what was read, with the place of the next number and the run from there; or a refusal, with number and place.
+-- What reading gives: what was read, with the place and the byte behind its last number; or a refusal, with its notice.
 pub data Read (A : Type 0) : Type 0 where
-  read : (what : A) (place : ℕ) (rest : Run) → Read A
-  refused : (number place : ℕ) → Read A
+  read : (what : A) (place at : ℕ) → Read A
+  refused : Notice → Read A
 
--- A reader put to a run, whose first number has this place: a number's fault, then its field, then the next (rules 8.2 and 8.3).
-unfoldable pub reads : {A : Type 0} → Reader A → ℕ → Run → Read A
-reads (return what) place rest = read what place rest
-reads (needs reason allowed then) place over = refused (numberOf Ends) place
-reads (needs reason allowed then) place (fault k) = refused k place
-reads (needs reason allowed then) place (number value rest) =
-    cond (allowed value) (reads (then value) (suc place) rest) (refused (numberOf reason) place)
+-- What comes of a number with this place and offset: a fault is refused, and a value with the byte behind it is gone on from.
+abbrev pub onFound : {A : Type 0} → (place offset : ℕ) → Found → ((value next : ℕ) → Read A) → Read A
+onFound place offset (oneNumber value next) then = then value next
+onFound place offset (oneFault k) then = refused (notice k place offset)
 
--- The numbers that a reader takes from a run: up to its last field, or up to and with the number that it refuses.
-unfoldable pub consumes : {A : Type 0} → Reader A → Run → List ℕ
-consumes (return what) left = []
-consumes (needs reason allowed then) over = []
-consumes (needs reason allowed then) (fault k) = []
-consumes (needs reason allowed then) (number value rest) = value ∷ cond (allowed value) (consumes (then value) rest) []
+-- A reader put to a file from a byte on, where the number with this place starts: a number's fault, then its field, then the next (rules 2.1,
+-- 8.2, 8.3 and 8.9).
+unfoldable pub reads : {A : Type 0} → Reader A → List ℕ → (place at : ℕ) → Read A
+reads (return what) file place at = read what place at
+reads (needs reason allowed then) file place at =
+    onFound place (offsetAt file at) (readAt file at) (λ (value next : ℕ).
+    cond (allowed value) (reads (then value) file (suc place) next) (refused (notice (numberOf reason) place (offsetAt file at))))
+
+-- The values that follow what is found: none after a fault.
+abbrev pub valuesOn : Found → ((value next : ℕ) → List ℕ) → List ℕ
+valuesOn (oneNumber value next) then = value ∷ then value next
+valuesOn (oneFault k) then = []
+
+-- The numbers that a reader takes from a byte of a file on: up to its last field, or up to and with the number that it refuses.
+unfoldable pub consumes : {A : Type 0} → Reader A → List ℕ → (at : ℕ) → List ℕ
+consumes (return what) file at = []
+consumes (needs reason allowed then) file at =
+    valuesOn (readAt file at) (λ (value next : ℕ). cond (allowed value) (consumes (then value) file next) [])
 
 -- ---- the fields of a record by their index, apart from any file
 -- What a reader still needs behind some numbers, which are not tested.

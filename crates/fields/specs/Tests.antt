@@ -1,4 +1,4 @@
--- Tests of a file, each at its place, without a reader of fields: a test looks up in the file the numbers that it needs.
+-- Tests of a file, each at its place and offset, without a reader of fields: a test looks up in the file the numbers that it needs.
 use Prim.Native.Nat.{ℕ, zero, suc}
 use mathlib.Core.Path.{_≡_}
 use mathlib.Core.Bool.{Bool, true, false, not, cond}
@@ -11,24 +11,28 @@ use Rattle.number.specs.Counting.{startOf, numberAt, valueAt}
 use Rattle.fields.specs.declared.reason.Reason.{Reason}
 use Rattle.fields.specs.declared.reason.Reason.the-variants.{Ends, NotShortest, TooLarge, BytesAfter}
 use Rattle.fields.specs.Reasons.{numberOf}
+use Rattle.fields.specs.Answers.{Notice, notice}
 
--- A test: whether it fails, and for which reason and at which place it then refuses the file.
+-- A test: whether it fails, and for which reason, at which place and at which offset it then refuses the file (rules 8.1, 8.2 and 8.9).
 pub record Test : Type 0 where
   pub fails : Bool
   pub reason : Reason
   pub place : ℕ
+  pub offset : ℕ
+
+-- The notice of its refusal.
+abbrev pub refusalBy : Test → Notice
+refusalBy test = notice (numberOf (test .reason)) (test .place) (test .offset)
 
 -- The first test that fails refuses; if none does, the answer is the given one (rule 8.8).
-unfoldable pub testedBy : {A : Type 0} → ((number place : ℕ) → A) → List Test → A → A
+unfoldable pub testedBy : {A : Type 0} → (Notice → A) → List Test → A → A
 testedBy refuse [] answer = answer
-testedBy refuse (test ∷ tests) answer = cond (test .fails) (refuse (numberOf (test .reason)) (test .place)) (testedBy refuse tests answer)
+testedBy refuse (test ∷ tests) answer = cond (test .fails) (refuse (refusalBy test)) (testedBy refuse tests answer)
 
--- Number and place of the first test that fails: none before it does.
-pub data FirstFails : List Test → (number place : ℕ) → Type 0 where
-  here : {test : Test} {tests : List Test} → test .fails ≡ true → FirstFails (test ∷ tests) (numberOf (test .reason)) (test .place)
-  later :
-      {test : Test} {tests : List Test} {number place : ℕ} → test .fails ≡ false → FirstFails tests number place →
-      FirstFails (test ∷ tests) number place
+-- The notice of the first test that fails: none before it does.
+pub data FirstFails : List Test → Notice → Type 0 where
+  here : {test : Test} {tests : List Test} → test .fails ≡ true → FirstFails (test ∷ tests) (refusalBy test)
+  later : {test : Test} {tests : List Test} {notice : Notice} → test .fails ≡ false → FirstFails tests notice → FirstFails (test ∷ tests) notice
 
 -- None of them fails.
 pub data NoneFails : List Test → Type 0 where
@@ -41,21 +45,22 @@ abbrev pub isFault : Reason → Found → Bool
 isFault reason (oneNumber value next) = false
 isFault reason (oneFault found) = eqb found (numberOf reason)
 
--- The test of number k for one of the faults.
+-- The test of number k for one of the faults; its offset is where the number starts (rule 8.9).
 abbrev pub faultTest : Reason → List ℕ → ℕ → Test
-faultTest reason file k = record { fails = isFault reason (numberAt file k); reason = reason; place = k }
+faultTest reason file k = record { fails = isFault reason (numberAt file k); reason = reason; place = k; offset = startOf file k }
 
 -- The tests of number k for all three faults (rule 1.5).
 abbrev pub numberTests : List ℕ → ℕ → List Test
 numberTests file k = faultTest Ends file k ∷ faultTest NotShortest file k ∷ faultTest TooLarge file k ∷ []
 
--- The tests of number k: for its faults, then for its own field (rule 8.3).
+-- The tests of number k: for its faults, then for its own field (rules 8.3 and 8.9).
 abbrev pub fieldTests : Reason → (ℕ → Bool) → List ℕ → ℕ → List Test
-fieldTests reason allowed file k = numberTests file k ++ record { fails = not (allowed (valueAt file k)); reason = reason; place = k } ∷ []
+fieldTests reason allowed file k =
+    numberTests file k ++ record { fails = not (allowed (valueAt file k)); reason = reason; place = k; offset = startOf file k } ∷ []
 
--- 9: there are bytes behind a count of numbers; the place is that count (rule 8.4).
+-- 9: there are bytes behind a count of numbers; the place is that count, the offset the first of these bytes (rules 8.4 and 8.9).
 abbrev pub endTest : List ℕ → (count : ℕ) → Test
-endTest file count = record { fails = ltb (startOf file count) (length file); reason = BytesAfter; place = count }
+endTest file count = record { fails = ltb (startOf file count) (length file); reason = BytesAfter; place = count; offset = startOf file count }
 
 -- ---- a count of records, from an index on
 -- The list of what is at each index.

@@ -1,4 +1,4 @@
-// Where a number is in a file (rules 2.1 and 8.2).
+// Where a number is in a file (rules 2.1, 8.2 and 8.9).
 ghost use Rattle.fields.specs.Spots.{SpotFirstPromise, SpotRefusalPromise};
 use crate::answer::Refusal;
 use crate::reason::Reason;
@@ -17,13 +17,14 @@ impl Spot {
         Spot { byte: 0, place: 0 }
     }
 
-    // The refusal of the number at this spot, with its place (rule 8.2).
+    // The refusal of the number at this spot, with its place and its first byte (rules 8.2 and 8.9).
     pub fn refusal(self, reason: Reason) -> Refusal
         ensures { λ r. ⌜ SpotRefusalPromise self reason r ⌝ }
     {
         Refusal {
             reason,
             place: self.place,
+            offset: self.byte as u64,
         }
     }
 }

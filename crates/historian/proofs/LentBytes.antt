@@ -1,6 +1,6 @@
 -- The tables of the C caller, read as numbers, are left as the call below promises for tables of numbers (rule 10.7). So the theorems about an
--- accepting call's tables hold of the caller's bytes. The result and the place tell the first reason that holds, and a refusal leaves the bytes
--- as they were.
+-- accepting call's tables hold of the caller's bytes. The result, the place and the offset tell the first reason that holds, and a refusal
+-- leaves the bytes as they were.
 use Prim.Native.Nat.{ℕ, _<_}
 use mathlib.Core.Path.{_≡_, refl, sym, ap, ap₂, _∙_}
 use mathlib.Core.List.{List, flatMap}
@@ -8,7 +8,7 @@ use mathlib.Core.Logic.{_↔_}
 use native.Mathlib.Omega.{arith}
 use lib.ListN.{length}
 use Rattle.fields.specs.declared.answer.Answer.the-variants.{Accepted as AcceptedAnswer}
-use Rattle.fields.specs.Answers.{accepts, refusalNumber, refusalPlace}
+use Rattle.fields.specs.Answers.{Notice, notice, accepts, refusalNumber, refusalPlace, refusalOffset}
 use Rattle.fields.specs.Tests.{Test, FirstFails, NoneFails}
 use Rattle.accounts.specs.Order.{Ruling, refusal, accepted}
 use Rattle.accounts.specs.Quantified.{rows, quantified}
@@ -24,12 +24,14 @@ use Rattle.tables.specs.Bytes.{wholeNumbers, tableNumbers, bytesOverwritten}
 use Rattle.tables.proofs.ReadBack.{first-length, numbers-overwritten}
 use Rattle.historian.specs.Tables.{entryRuling, Outcome, EntryPromise}
 
--- ---- a result other than 0 and a place tell the ruling
+-- ---- a result other than 0, a place and an offset tell the ruling
 refusal-told :
-    (ruling : Ruling) (number place : ℕ) → 0 < number → refusalNumber (rulingVerdict ruling) ≡ number → refusalPlace (rulingVerdict ruling) ≡ place →
-    ruling ≡ refusal number place
-refusal-told (refusal number' place') number place some is at = ap₂ refusal is at
-refusal-told (accepted plants segments) number place some is at = absurd (omega (arith, some, is))
+    (ruling : Ruling) (told : Notice) → 0 < told .number → refusalNumber (rulingVerdict ruling) ≡ told .number →
+    refusalPlace (rulingVerdict ruling) ≡ told .place → refusalOffset (rulingVerdict ruling) ≡ told .offset → ruling ≡ refusal told
+refusal-told (refusal other) told some is at byte =
+    ap (λ (n : ℕ). refusal (notice n (other .place) (other .offset))) is
+    ∙ ap₂ (λ (p o : ℕ). refusal (notice (told .number) p o)) at byte
+refusal-told (accepted plants segments) told some is at byte = absurd (omega (arith, some, is))
 
 -- ---- the caller's tables, before and after
 module _ {file plants segments : List ℕ} {outcome : Outcome} (promised : EntryPromise file plants segments outcome) where
@@ -51,7 +53,7 @@ module _ {file plants segments : List ℕ} {outcome : Outcome} (promised : Entry
       (tableNumbers (bytesOverwritten (plantEntries a) plants) ≡ overwritten (plantEntries a) (tableNumbers plants))
       × (tableNumbers (bytesOverwritten (segmentEntries a) segments) ≡ overwritten (segmentEntries a) (tableNumbers segments))
   unfolding flatMap
-  tables-read (refusal number place) is = (refl, refl)
+  tables-read (refusal notice) is = (refl, refl)
   tables-read (accepted plant-numbers segment-numbers) is =
       let given : Accepted file plant-numbers segment-numbers =
       record { plantTable = wholeNumbers plants; segmentTable = wholeNumbers segments; answer = is } in
@@ -75,15 +77,18 @@ module _ {file plants segments : List ℕ} {outcome : Outcome} (promised : Entry
         leaves = rw same-ruling (ap₂ lent (ap tableNumbers (promised .plants-after) ∙ read .0) (ap tableNumbers (promised .segments-after) ∙ read .1));
       }
 
-  -- a result other than 0, with a place: that is the first test that fails
+  -- a result other than 0, with a place and an offset: that is the first test that fails
   pub refused-exactly-bytes :
-      (number place : ℕ) → 0 < number → ((outcome .result ≡ number) × (outcome .place ≡ place)) ↔ FirstFails tests number place
-  refused-exactly-bytes number place some =
-      let exactly = refused-exactly file (wholeNumbers plants) (wholeNumbers segments) number place in (
-        λ told. exactly .0 (refusal-told ruling number place some (sym (promised .result) ∙ told .0) (sym (promised .place) ∙ told .1)),
+      (told : Notice) → 0 < told .number →
+      ((outcome .result ≡ told .number) × (outcome .place ≡ told .place) × (outcome .offset ≡ told .offset)) ↔ FirstFails tests told
+  refused-exactly-bytes told some =
+      let exactly = refused-exactly file (wholeNumbers plants) (wholeNumbers segments) told in (
+        λ (result, place, offset).
+        exactly .0 (refusal-told ruling told some (sym (promised .result) ∙ result) (sym (promised .place) ∙ place) (sym (promised .offset) ∙ offset)),
         λ first. (
           promised .result ∙ ap (λ (a : Ruling). refusalNumber (rulingVerdict a)) (exactly .1 first),
           promised .place ∙ ap (λ (a : Ruling). refusalPlace (rulingVerdict a)) (exactly .1 first),
+          promised .offset ∙ ap (λ (a : Ruling). refusalOffset (rulingVerdict a)) (exactly .1 first),
         ),
       )
 
@@ -97,7 +102,7 @@ module _ {file plants segments : List ℕ} {outcome : Outcome} (promised : Entry
       by-ruling :
           (a : Ruling) → (refusalNumber (rulingVerdict a) ≡ 0 → ⊥) →
           (bytesOverwritten (plantEntries a) plants ≡ plants) × (bytesOverwritten (segmentEntries a) segments ≡ segments)
-      by-ruling (refusal number place) some = (refl, refl)
+      by-ruling (refusal notice) some = (refl, refl)
       by-ruling (accepted plant-numbers segment-numbers) some = absurd (some refl)
 
   -- if no test fails the ruling is an acceptance
@@ -113,8 +118,8 @@ module _ {file plants segments : List ℕ} {outcome : Outcome} (promised : Entry
   )
     where
       by-ruling : (a : Ruling) → ruling ≡ a → refusalNumber (rulingVerdict a) ≡ 0 → NoneFails tests
-      by-ruling (refusal number place) is none =
-          absurd (omega (arith, refusal-numbered file (wholeNumbers plants) (wholeNumbers segments) number place is, none))
+      by-ruling (refusal notice) is none =
+          absurd (omega (arith, refusal-numbered file (wholeNumbers plants) (wholeNumbers segments) notice is, none))
       by-ruling (accepted plant-numbers segment-numbers) is none =
           accepted-is file (wholeNumbers plants) (wholeNumbers segments) plant-numbers segment-numbers is
 

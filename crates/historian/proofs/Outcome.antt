@@ -7,21 +7,23 @@ use Rattle.historian.specs.Tables.{Outcome, EntryPromise}
 use Rattle.historian.specs.Sheets.{DaysOutcome, leaves, DaysEntryPromise}
 
 -- an outcome by its parts
-abbrev made : (result place : ℕ) (plants segments : List ℕ) → Outcome
-made result place plants segments = record { result = result; place = place; plants = plants; segments = segments }
+abbrev made : (result place offset : ℕ) (plants segments : List ℕ) → Outcome
+made result place offset plants segments = record { result = result; place = place; offset = offset; plants = plants; segments = segments }
 
 -- `steeplecuff_quantify`: two outcomes that meet its promise, of one file and the same tables, are the same
 pub one-outcome : (file plants segments : List ℕ) (a b : Outcome) → EntryPromise file plants segments a → EntryPromise file plants segments b → a ≡ b
 one-outcome file plants segments a b p q =
-    ap (λ (x : ℕ). made x (a .place) (a .plants) (a .segments)) (p .result ∙ sym (q .result))
-    ∙ ap (λ (x : ℕ). made (b .result) x (a .plants) (a .segments)) (p .place ∙ sym (q .place))
-    ∙ ap (λ (x : List ℕ). made (b .result) (b .place) x (a .segments)) (p .plants-after ∙ sym (q .plants-after))
-    ∙ ap (made (b .result) (b .place) (b .plants)) (p .segments-after ∙ sym (q .segments-after))
+    ap (λ (x : ℕ). made x (a .place) (a .offset) (a .plants) (a .segments)) (p .result ∙ sym (q .result))
+    ∙ ap (λ (x : ℕ). made (b .result) x (a .offset) (a .plants) (a .segments)) (p .place ∙ sym (q .place))
+    ∙ ap (λ (x : ℕ). made (b .result) (b .place) x (a .plants) (a .segments)) (p .offset ∙ sym (q .offset))
+    ∙ ap (λ (x : List ℕ). made (b .result) (b .place) (b .offset) x (a .segments)) (p .plants-after ∙ sym (q .plants-after))
+    ∙ ap (made (b .result) (b .place) (b .offset) (b .plants)) (p .segments-after ∙ sym (q .segments-after))
 
 -- `steeplecuff_days`: so are two of one sheet and the same figures before
 pub one-days-outcome :
     (sheet : List ℕ) (before : Figures) (a b : DaysOutcome) → DaysEntryPromise sheet before a → DaysEntryPromise sheet before b → a ≡ b
 one-days-outcome sheet before a b p q =
-    ap (λ (x : ℕ). leaves x (a .place) (a .figures)) (p .result ∙ sym (q .result))
-    ∙ ap (λ (x : ℕ). leaves (b .result) x (a .figures)) (p .place ∙ sym (q .place))
-    ∙ ap (leaves (b .result) (b .place)) (p .figures-after ∙ sym (q .figures-after))
+    ap (λ (x : ℕ). leaves x (a .place) (a .offset) (a .figures)) (p .result ∙ sym (q .result))
+    ∙ ap (λ (x : ℕ). leaves (b .result) x (a .offset) (a .figures)) (p .place ∙ sym (q .place))
+    ∙ ap (λ (x : ℕ). leaves (b .result) (b .place) x (a .figures)) (p .offset ∙ sym (q .offset))
+    ∙ ap (leaves (b .result) (b .place) (b .offset)) (p .figures-after ∙ sym (q .figures-after))

@@ -4,7 +4,7 @@ use mathlib.Core.Path.{_≡_, sym, ap, _∙_}
 use mathlib.Core.List.{List}
 use Rattle.fields.specs.declared.answer.Refusal.{Refusal}
 use Rattle.fields.specs.Reasons.{numberOf}
-use Rattle.fields.specs.Answers.{refusalNumber, refusalPlace}
+use Rattle.fields.specs.Answers.{noticeOf, refusalNumber, refusalPlace, refusalOffset}
 use Rattle.meter.specs.declared.figures.Figures.{Figures}
 use Rattle.meter.specs.declared.call.MeterDays.{MeterDays}
 use Rattle.meter.specs.declared.call.MeterDays.the-variants.{Counted, Refused}
@@ -13,10 +13,12 @@ use Rattle.historian.specs.Sheets.{figuresAfter, leaves, DaysEntryPromis
 
 -- what an answer leaves, if it is the one to the sheet
 left-by : (sheet : List ℕ) (before : Figures) (answer : SheetAnswer) → answer ≡ meterDays sheet →
-    DaysEntryPromise sheet before (leaves (refusalNumber (sheetVerdict answer)) (refusalPlace (sheetVerdict answer)) (figuresAfter answer before))
+    DaysEntryPromise sheet before
+    (leaves (refusalNumber (sheetVerdict answer)) (refusalPlace (sheetVerdict answer)) (refusalOffset (sheetVerdict answer)) (figuresAfter answer before))
 left-by sheet before answer is = record {
   result = ap (λ (a : SheetAnswer). refusalNumber (sheetVerdict a)) is;
   place = ap (λ (a : SheetAnswer). refusalPlace (sheetVerdict a)) is;
+  offset = ap (λ (a : SheetAnswer). refusalOffset (sheetVerdict a)) is;
   figures-after = ap (λ (a : SheetAnswer). figuresAfter a before) is;
 }
 
@@ -24,9 +26,9 @@ module _ (sheet : List ℕ) (before : Figures) (answer : MeterDays) (promised : 
   -- a refusal leaves the figures as they were
   pub refused-leaves :
       (why : Refusal) → answer ≡ Refused why →
-      DaysEntryPromise sheet before (leaves (numberOf (why .reason)) (why .place) before)
-  refused-leaves why is = left-by sheet before (refusal (numberOf (why .reason)) (why .place)) (ap daysTold (sym is) ∙ promised)
+      DaysEntryPromise sheet before (leaves (numberOf (why .reason)) (why .place) (why .offset) before)
+  refused-leaves why is = left-by sheet before (refusal (noticeOf why)) (ap daysTold (sym is) ∙ promised)
 
   -- acceptance leaves those of the sheet
-  pub counted-leaves : (found : Figures) → answer ≡ Counted found → DaysEntryPromise sheet before (leaves 0 0 found)
+  pub counted-leaves : (found : Figures) → answer ≡ Counted found → DaysEntryPromise sheet before (leaves 0 0 0 found)
   counted-leaves found is = left-by sheet before (figures found) (ap daysTold (sym is) ∙ promised)

@@ -3,11 +3,12 @@ use Prim.Native.Nat.{ℕ}
 use mathlib.Core.Path.{_≡_, refl, sym, ap, _∙_}
 use mathlib.Core.List.{List, flatMap}
 use native.Mathlib.Omega.{arith}
+use lib.ListN.{length}
 use Rattle.fields.specs.declared.answer.Answer.{Answer}
 use Rattle.fields.specs.declared.answer.Answer.the-variants.{Accepted, Refused}
 use Rattle.fields.specs.declared.answer.Refusal.{Refusal}
 use Rattle.fields.specs.Reasons.{numberOf}
-use Rattle.fields.specs.Answers.{refusing, refusalNumber, refusalPlace, said}
+use Rattle.fields.specs.Answers.{refusing, refusalNumber, refusalPlace, refusalOffset, said}
 use Rattle.fields.proofs.Answers.{refuses-not-accepts}
 use Rattle.records.specs.Plants.{mostPlants}
 use Rattle.records.specs.Segments.{mostSegments}
@@ -23,7 +24,7 @@ use Rattle.historian.specs.Tables.{entryRuling, EntryPromise}
 
 module _
     (file plants segments : List ℕ) (r : Settled) (settles : SettlePromise file r) (answer : Answer)
-    (told : said answer ≡ withTables (r .«plant_count») (r .«segment_count») (wholeNumbers plants) (wholeNumbers segments) (said (r .answer))) where
+    (told : said answer ≡ withTables (r .«plant_count») (r .«segment_count») (wholeNumbers plants) (wholeNumbers segments) (length file) (said (r .answer))) where
   -- the ruling, and what is answered
   abbrev ruling : Ruling
   ruling = entryRuling file plants segments
@@ -34,7 +35,7 @@ module _
   -- a refusal leaves the tables as they were
   pub entry-refuses :
       (why : Refusal) → answer ≡ Refused why →
-      EntryPromise file plants segments (record { result = numberOf (why .reason); place = why .place; plants = plants; segments = segments })
+      EntryPromise file plants segments (record { result = numberOf (why .reason); place = why .place; offset = why .offset; plants = plants; segments = segments })
   unfolding flatMap
   entry-refuses why is =
       let verdict : refusing why ≡ rulingVerdict ruling = sym (ap said is) ∙ verdict-is in
@@ -42,6 +43,7 @@ module _
       record {
         result = ap refusalNumber verdict;
         place = ap refusalPlace verdict;
+        offset = ap refusalOffset verdict;
         plants-after = same .0;
         segments-after = same .1;
       }
@@ -49,7 +51,7 @@ module _
       by-ruling :
           (a : Ruling) → refusing why ≡ rulingVerdict a →
           (plants ≡ bytesOverwritten (plantEntries a) plants) × (segments ≡ bytesOverwritten (segmentEntries a) segments)
-      by-ruling (refusal number place) e = (refl, refl)
+      by-ruling (refusal notice) e = (refl, refl)
       by-ruling (accepted plant-numbers segment-numbers) e = absurd (refuses-not-accepts e)
 
   module _ (is : answer ≡ Accepted) where
@@ -68,13 +70,14 @@ module _
     pub entry-accepts :
         (plants' segments' : List ℕ) → WritePlantsPromise (r .plants) (r .«plant_count») plants plants' →
         WriteSegmentsPromise (r .segments) (r .«segment_count») segments segments' →
-        EntryPromise file plants segments (record { result = 0; place = 0; plants = plants'; segments = segments' })
+        EntryPromise file plants segments (record { result = 0; place = 0; offset = 0; plants = plants'; segments = segments' })
     entry-accepts plants' segments' plants-written segments-written =
         let rows = rows-are file r settles (wholeNumbers plants) (wholeNumbers segments) answer told is in
         let verdict = sym (ap said is) ∙ verdict-is in
         record {
           result = ap refusalNumber verdict;
           place = ap refusalPlace verdict;
+          offset = ap refusalOffset verdict;
           plants-after =
               plants-written
               ∙ ap (λ (n : ℕ). bytesOverwritten (firstRows (plantRowAt (r .plants)) n) plants) (all-rows .0)

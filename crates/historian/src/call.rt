@@ -7,15 +7,16 @@ use tables::room;
 use tables::write_plants;
 use tables::write_segments;
 
-// Answers any file with any tables: number of refusal and place, 0 and 0 if it is accepted (rules 10.2 to 10.7; include/steeplecuff.h).
+// Answers any file with any tables: number of refusal, place and offset, all 0 if it is accepted (rules 10.2 to 10.8; include/steeplecuff.h).
 #[no_mangle]
 pub extern "C" fn steeplecuff_quantify(
     file: &[u8],
     plants: &mut [u8],
     segments: &mut [u8],
     place: &mut u64,
+    offset: &mut u64,
 ) -> u32
-    ensures { λ r. ⌜ EntryPromise (now (file .entry)) (now (plants .entry)) (now (segments .entry)) (record { result = r; place = now (place .exit); plants = now (plants .exit); segments = now (segments .exit) }) ⌝ }
+    ensures { λ r. ⌜ EntryPromise (now (file .entry)) (now (plants .entry)) (now (segments .entry)) (record { result = r; place = now (place .exit); offset = now (offset .exit); plants = now (plants .exit); segments = now (segments .exit) }) ⌝ }
 {
     let settled = settle(file);
     let answer = settled.answer;
@@ -27,10 +28,12 @@ pub extern "C" fn steeplecuff_quantify(
         segment_count,
         room(plants.len()),
         room(segments.len()),
+        file.len() as u64,
     );
     if let Answer::Refused(refusal) = answer {
         let reason = refusal.reason;
         *place = refusal.place;
+        *offset = refusal.offset;
         return reason.number();
     }
     let plant_accounts = settled.plants;
@@ -38,5 +41,6 @@ pub extern "C" fn steeplecuff_quantify(
     let segment_accounts = settled.segments;
     write_segments(segments, segment_accounts, segment_count as usize);
     *place = 0;
+    *offset = 0;
     0
 }

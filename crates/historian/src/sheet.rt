@@ -3,7 +3,7 @@ ghost use Rattle.historian.specs.Sheets.{five, leaves, DaysEntryPromise}
 use meter::MeterDays;
 use meter::days;
 
-// Answers any sheet: number of refusal and place, or 0, 0 and the five figures if it is accepted (rule 12.9; include/steeplecuff.h).
+// Answers any sheet: number of refusal, place and offset, or 0, 0, 0 and the five figures if it is accepted (rules 10.8 and 12.9; include/steeplecuff.h).
 #[no_mangle]
 pub extern "C" fn steeplecuff_days(
     sheet: &[u8],
@@ -13,16 +13,18 @@ pub extern "C" fn steeplecuff_days(
     longest: &mut u64,
     first: &mut u64,
     place: &mut u64,
+    offset: &mut u64,
 ) -> u32
     ensures { λ r. ⌜ DaysEntryPromise
         (now (sheet .entry))
         (five (now (sum .entry)) (now (repeated .entry)) (now («repeated_zero» .entry)) (now (longest .entry)) (now (first .entry)))
-        (leaves r (now (place .exit)) (five (now (sum .exit)) (now (repeated .exit)) (now («repeated_zero» .exit)) (now (longest .exit)) (now (first .exit)))) ⌝ }
+        (leaves r (now (place .exit)) (now (offset .exit)) (five (now (sum .exit)) (now (repeated .exit)) (now («repeated_zero» .exit)) (now (longest .exit)) (now (first .exit)))) ⌝ }
 {
     match days(sheet) {
         MeterDays::Refused(refusal) => {
             let reason = refusal.reason;
             *place = refusal.place;
+            *offset = refusal.offset;
             reason.number()
         }
         MeterDays::Counted(figures) => {
@@ -32,6 +34,7 @@ pub extern "C" fn steeplecuff_days(
             *longest = figures.longest;
             *first = figures.first;
             *place = 0;
+            *offset = 0;
             0
         }
     }

@@ -14,12 +14,13 @@ use Rattle.records.specs.Periods.{periodFile}
 use Rattle.number.specs.declared.Number.{Number}
 use Rattle.inspector.specs.declared.field.Field.{Field}
 use Rattle.inspect.specs.declared.ending.Stop.{Stop}
-use Rattle.inspect.specs.Page.{stopOf, stoppedAt, verdictText, stopLine, pageEnd}
+use Rattle.inspect.specs.Page.{marked, stopOf, stoppedAt, closedAt, verdictText, stopLine, pageEnd}
 
 module _ (file : List ℕ) (cut : Bool) (place byte : ℕ) (field : Field) (found : Number) (answer : Answer) where
   pub page-end :
       {stop : Stop} {fault : ℕ} → finds found ≡ readAt file byte → said answer ≡ readVerdict (periodFile file) →
       stop ≡ stopOf (finds found) cut (eqb byte (length file)) → fault ≡ refusalOf (finds found) →
-      pageEnd file cut place byte field ≡ stoppedAt stop place byte field ++ verdictText (said answer) ++ stopLine stop fault place byte
+      pageEnd file cut place byte field
+      ≡ stoppedAt stop file place byte field ++ closedAt stop (marked (said answer) byte) ++ verdictText (said answer) ++ stopLine stop fault place byte
   unfolding pageEnd
   page-end finding answered stopping faulty = rw (stopping, faulty, answered, finding) refl

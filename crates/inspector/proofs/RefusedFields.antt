@@ -8,7 +8,7 @@ use borrow.Author.Tests.{lt-ltb, le-ltb}
 use Rattle.fields.specs.declared.reason.Reason.{Reason}
 use Rattle.fields.specs.declared.reason.Reason.the-variants.{WrongEdition}
 use Rattle.fields.specs.Reasons.{numberOf}
-use Rattle.fields.specs.Run.{run}
+use Rattle.fields.specs.Answers.{Notice}
 use Rattle.fields.specs.Readers.{Read, read, refused, reads}
 use Rattle.fields.specs.Files.{ended}
 use Rattle.fields.proofs.Along.{Came, came, not-allowed, has-fault, Ended, bytes-left, not-read, comes-to, at-end}
@@ -57,34 +57,33 @@ records-due counts (line-field {place} its) =
 
 -- so the refusal of a field at which reading ended is due there, if it is not the fault of a number
 field-due :
-    {file : List ℕ} {Field : (place : ℕ) → Reason → Type 0} {A : Type 0} {P : A → (place at : ℕ) → Type 0} {refusal place : ℕ} (told : Header) →
-    ((reason : Reason) → Field place reason → due told place ≡ numberOf reason) → numberOf WrongEdition ≤ refusal →
-    Came file (Placed Field) P (refused refusal place) → due told place ≡ refusal
+    {file : List ℕ} {Field : (place : ℕ) → Reason → Type 0} {A : Type 0} {P : A → (place at : ℕ) → Type 0} {notice : Notice} (told : Header) →
+    ((reason : Reason) → Field (notice .place) reason → due told (notice .place) ≡ numberOf reason) → numberOf WrongEdition ≤ notice .number →
+    Came file (Placed Field) P (refused notice) → due told (notice .place) ≡ notice .number
 field-due told its large (not-allowed {reason} (field, room)) = its reason field
 field-due told its large (has-fault small) = absurd (omega arith)
 
 -- and behind the records the refusal for bytes that follow is due
 records-end-due :
-    {file : List ℕ} {refusal place : ℕ} (counts : Counts) → numberOf WrongEdition ≤ refusal →
-    Ended file (Placed (RecordField counts)) (RecordsRead counts) (refused refusal place) → due (Tells counts) place ≡ refusal
+    {file : List ℕ} {notice : Notice} (counts : Counts) → numberOf WrongEdition ≤ notice .number →
+    Ended file (Placed (RecordField counts)) (RecordsRead counts) (refused notice) → due (Tells counts) (notice .place) ≡ notice .number
 records-end-due counts large (bytes-left (its, (here, last))) = rw here (ap refusalDue (after-all counts (linesEnd counts) (omega arith)))
 records-end-due counts large (not-read its) = field-due (Tells counts) (λ reason. records-due counts) large its
 
 -- ---- so the refusal of a file is that of the field that is named at its place
 pub refused-field :
-    {refusal place : ℕ} (file : List ℕ) → periodFile file ≡ refused refusal place → numberOf WrongEdition ≤ refusal →
-    refusalDue (fieldAt (headerOf file) place) ≡ refusal
+    {notice : Notice} (file : List ℕ) → periodFile file ≡ refused notice → numberOf WrongEdition ≤ notice .number →
+    refusalDue (fieldAt (headerOf file) (notice .place)) ≡ notice .number
 unfolding periodFile period headerOf
-refused-field {refusal} {place} file e large = by-header (reads header 0 (run file)) refl (comes-to (header-along file))
+refused-field {notice} file e large = by-header (reads header file 0 0) refl (comes-to (header-along file))
   where
     by-header :
-        (outcome : Read Counts) → reads header 0 (run file) ≡ outcome → Came file (Placed HeaderField) HeaderRead outcome →
-        due (telling outcome) place ≡ refusal
-    by-header (read h end rest) is (came {at} (counts, (here, start))) =
-        let on = ap ended (sym (after-read header records 0 (run file) h end rest is)) ∙ e in
+        (outcome : Read Counts) → reads header file 0 0 ≡ outcome → Came file (Placed HeaderField) HeaderRead outcome →
+        due (telling outcome) (notice .place) ≡ notice .number
+    by-header (read h end at) is (came (counts, (here, start))) =
+        let on = ap (ended file) (sym (after-read header records file 0 0 h end at is)) ∙ e in
         records-end-due h large (rw (rw here at on) at (at-end (comes-to (records-along file h counts at start))))
-    by-header (refused found at) is its =
-        let same = sym (ap ended (after-refused header records 0 (run file) found at is)) ∙ e in
-        let refusal-is : found ≡ refusal = cc in
-        let place-is : at ≡ place = cc in
-        field-due TellsNothing (λ reason. header-due TellsNothing) large (rw (refusal-is, place-is) at its)
+    by-header (refused found) is its =
+        let same = sym (ap (ended file) (after-refused header records file 0 0 found is)) ∙ e in
+        let found-is : found ≡ notice = cc in
+        field-due TellsNothing (λ reason. header-due TellsNothing) large (rw found-is at its)

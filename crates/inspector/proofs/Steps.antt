@@ -12,7 +12,7 @@ use Rattle.inspector.specs.Reader.{Stepped, stepAt, steppedBy}
 
 -- past the byte where it stood, by one byte to five, and no further than the file goes
 pub moves-on :
-    (file : List ℕ) (at value next : ℕ) (step : Step) → steppedBy step ≡ stepAt file at → step .found ≡ Value value next →
+    (file : List ℕ) (at value next : ℕ) (step : Step) → steppedBy step ≡ stepAt file at → step .report .number ≡ Value value next →
     Bounds file at value (step .at)
 moves-on file at value next step e is =
     let here : readAt file at ≡ number value next = sym (ap (λ (s : Stepped). s .found) e) ∙ ap finds is in

@@ -4,17 +4,16 @@ use mathlib.Core.Path.{_≡_, refl, sym, ap, _∙_}
 use mathlib.Core.List.{List, [], _∷_}
 use native.Mathlib.Decide.{decLe}
 use native.Mathlib.Omega.{arith}
-use lib.ListN.{length, drop}
+use lib.ListN.{length}
 use denote.Ref.{RefT, now}
 use Rattle.number.specs.Reading.{Found, number as oneNumber, fault as oneFault}
 use Rattle.number.specs.Counting.{endOf, startOf, numberAt}
-use Rattle.number.proofs.Counting.{first-start, next-start}
+use Rattle.number.proofs.Counting.{first-start, next-start, start-told}
 use Rattle.fields.specs.declared.reason.Reason.the-variants.{WrongEdition, WrongLine, BytesAfter}
-use Rattle.fields.specs.Run.{Run, over, run}
+use Rattle.fields.specs.Answers.{Notice, notice}
 use Rattle.fields.specs.Readers.{Reader, needs, Read, read, refused, consumes}
 use Rattle.fields.specs.Files.{ended}
 use Rattle.fields.specs.Reasons.{numberOf}
-use Rattle.fields.proofs.Runs.{Faulty, ended as at-end, faulty, number-at, fault-at}
 use Rattle.fields.proofs.FieldByField.{Comes, done as to-end, goes, fails, stops, goes-over}
 use Rattle.fields.proofs.Along.{Along, done, needed}
 use Rattle.fields.proofs.EndOfFile.{more-left, none-left}
@@ -28,13 +27,13 @@ use Rattle.inspector.specs.Walk.{Walks, there, step}
 -- ---- how the reading of a file ends, after a count of numbers
 pub data Ending {A : Type 0} (file : List ℕ) (count : ℕ) : Read A → Type 0 where
   -- all is read, and no bytes are left
-  all-read : {what : A} → length file ≤ startOf file count → Ending file count (read what count over)
+  all-read : {what : A} → length file ≤ startOf file count → Ending file count (read what count (startOf file count))
   -- all is read, and bytes are left
-  bytes-left : startOf file count < length file → Ending file count (refused (numberOf BytesAfter) count)
+  bytes-left : startOf file count < length file → Ending file count (refused (notice (numberOf BytesAfter) count (startOf file count)))
   -- the next number has a fault
-  has-fault : {refusal : ℕ} → numberAt file count ≡ oneFault refusal → Ending file count (refused refusal count)
+  has-fault : {refusal : ℕ} → numberAt file count ≡ oneFault refusal → Ending file count (refused (notice refusal count (startOf file count)))
   -- the last number's value is refused
-  not-allowed : {refusal place : ℕ} → ((numberOf WrongEdition) ≤ refusal) × (refusal ≤ (numberOf WrongLine)) → count ≡ suc place → Ending file count (refused refusal place)
+  not-allowed : {refusal place : ℕ} → ((numberOf WrongEdition) ≤ refusal) × (refusal ≤ (numberOf WrongLine)) → count ≡ suc place → Ending file count (refused (notice refusal place (startOf file place)))
 
 -- ---- the walk over the numbers that reading takes from number k on
 -- A reader at a byte of a file.
@@ -78,26 +77,22 @@ module _ (file : RefT (List ℕ)) where
   in-walk :
       {A : Type 0} {P : A → (place at : ℕ) → Type 0} {reader : Reader A} {k at : ℕ} {outcome : Read A} → startOf (now file) k ≡ at →
       Along (now file) (Placed PeriodField) P reader k at → Comes (now file) reader k at outcome →
-      ConsumedWalk file k (consumes reader (run (drop at (now file)))) (ended outcome)
+      ConsumedWalk file k (consumes reader (now file) at) (ended (now file) outcome)
   unfolding consumes
   in-walk starts (done {what} {place} {at} p) to-end = by-end (decLe (length (now file)) at)
     where
-      by-end : Dec (length (now file) ≤ at) → ConsumedWalk file place [] (ended (read what place (run (drop at (now file)))))
-      by-end (yes h) = rw (none-left what place (now file) at h) (taken-none (all-read (rw starts h)))
-      by-end (no h) = rw (more-left what place (now file) at (omega arith)) (taken-none (bytes-left (rw starts (omega arith))))
+      by-end : Dec (length (now file) ≤ at) → ConsumedWalk file place [] (ended (now file) (read what place at))
+      by-end (yes h) = rw (none-left what place (now file) at h, ← starts) (taken-none (all-read (rw starts h)))
+      by-end (no h) =
+          let more : at < length (now file) = omega arith in
+          rw (more-left what place (now file) at more, ← starts) (taken-none (bytes-left (rw starts more)))
   in-walk {k} {at} starts (needed its more) (goes {v} {n} e h later) =
       let here : numberAt (now file) k ≡ oneNumber v n = rw starts e in
-      rw (number-at (now file) at v n e, h) (taken-one here (in-walk (next-start (now file) k here) (more v n e h) later))
-  in-walk {at} starts (needed (its, room) more) (fails {v} {n} e h) =
-      rw (number-at (now file) at v n e, h) (taken-one {next = n} (rw starts e) (taken-none (not-allowed its refl)))
-  in-walk {A} {k} {at} starts (needed {reason} {allowed} {then} its more) (stops {k = found} e) =
-      by-fault (rw starts e) (fault-at (now file) at found e)
-    where
-      by-fault :
-          {left : Run} {found : ℕ} → numberAt (now file) k ≡ oneFault found → Faulty left found →
-          ConsumedWalk {A = A} file k (consumes (needs reason allowed then) left) (refused found k)
-      by-fault e at-end = taken-none (has-fault e)
-      by-fault e faulty = taken-none (has-fault e)
+      rw (e, h) (taken-one here (in-walk (next-start (now file) k here) (more v n e h) later))
+  in-walk {k} {at} starts (needed (its, room) more) (fails {v} {n} e h) =
+      rw (e, h, ← starts, start-told (now file) k) (taken-one {next = n} (rw starts e) (taken-none (not-allowed its refl)))
+  in-walk {k} {at} starts (needed its more) (stops {k = found} e) =
+      rw (e, ← starts, start-told (now file) k) (taken-none (has-fault (rw starts e)))
 
   -- the whole file, from its first number on
   pub period-walked : ConsumedWalk file 0 (consumed (now file)) (periodFile (now file))

@@ -1,20 +1,22 @@
 -- What a walk over a file gives: the numbers that the period's reading consumed, in order (rule 11.4). If the file is accepted, or refused after
--- reading, for 10 to 15, these are all. If it is refused for 1, 2 or 3, the walk stops with that fault after as many numbers as the place says; for
--- 4 to 8 the refused number is the last of them; for 9 bytes are left after them.
+-- reading, for 10 to 15, these are all. If it is refused for 1 to 9, a walk of as many steps as the place says
+-- stands at the offset (rule 8.9): for 1, 2 or 3 it stops there with that fault; for 4 to 8 the refused number is the last of them; for 9 bytes are
+-- left there.
 use Prim.Native.Nat.{ℕ, zero, suc, _+_, _≤_, _<_}
 use mathlib.Core.Path.{_≡_, refl, sym, ap, _∙_}
 use mathlib.Core.Bool.{true≢false}
 use mathlib.Core.List.{List}
 use native.Mathlib.Nat.{zero-add, add-zero}
 use native.Mathlib.Omega.{arith}
-use lib.ListN.{length, getD}
+use lib.ListN.{length, getD, take}
+use lib.Seq.{length-take-le}
 use denote.Ref.{RefT, now}
 use Rattle.number.specs.Reading.{fault as oneFault, readAt, ends, tooLarge}
 use Rattle.number.specs.Counting.{startOf, numberAt, valueAt}
 use Rattle.number.proofs.Laws.{past-end, faults}
 use Rattle.number.proofs.Counting.{first-start, value-is, starts-inside}
 use Rattle.fields.specs.declared.reason.Reason.the-variants.{WrongEdition, WrongLine, BytesAfter}
-use Rattle.fields.specs.Run.{Run}
+use Rattle.fields.specs.Answers.{Notice}
 use Rattle.fields.specs.Readers.{Read, read, refused}
 use Rattle.fields.specs.Reasons.{numberOf}
 use Rattle.records.specs.Periods.{Period, periodFile}
@@ -119,13 +121,12 @@ module _ (file : RefT (List ℕ)) where
 -- ---- a file that is read to its end
 -- if reading gives a period, no bytes are left
 read-ending :
-    {A : Type 0} {file : List ℕ} {count place : ℕ} {what : A} {rest : Run} → Ending file count (read what place rest) →
-    length file ≤ startOf file count
+    {A : Type 0} {file : List ℕ} {count place at : ℕ} {what : A} → Ending file count (read what place at) → length file ≤ startOf file count
 read-ending (all-read h) = h
 
 -- so the numbers that it consumed are all: the reader then stands at the end, where it finds fault 1
 pub read-walked :
-    (file : RefT (List ℕ)) {what : Period} {place : ℕ} {rest : Run} → periodFile (now file) ≡ read what place rest →
+    (file : RefT (List ℕ)) {what : Period} {place at : ℕ} → periodFile (now file) ≡ read what place at →
     Stops file (consumed (now file)) ends (length (now file))
 read-walked file is =
     let past = read-ending (rw is at (ending file)) in
@@ -141,10 +142,10 @@ accepted-walked {plants} {segments} file given = by-reading (periodFile (now fil
   where
     by-reading :
         (outcome : Read Period) → periodFile (now file) ≡ outcome →
-        afterReading outcome (given .plantTable) (given .segmentTable) ≡ accepted plants segments →
+        afterReading (now file) outcome (given .plantTable) (given .segmentTable) ≡ accepted plants segments →
         Stops file (consumed (now file)) ends (length (now file))
-    by-reading (refused number place) is e = absurd (refusal-not-accepted e)
-    by-reading (read what place rest) is e = read-walked file is
+    by-reading (refused notice) is e = absurd (refusal-not-accepted e)
+    by-reading (read what place at) is e = read-walked file is
 
 -- and its numbers are those of the period that it holds
 pub accepted-numbers :
@@ -155,75 +156,99 @@ accepted-numbers file given = rw (← accepted-consumed given) (accepted-walked 
 -- ---- a file that reading refuses
 -- for 1, 2 or 3: there are as many numbers as its place says, and the next one has that fault
 fault-ending :
-    {A : Type 0} {file : List ℕ} {count number place : ℕ} → number ≤ tooLarge → Ending {A = A} file count (refused number place) →
-    (count ≡ place) × (numberAt file count ≡ oneFault number)
+    {A : Type 0} {file : List ℕ} {count : ℕ} {told : Notice} → told .number ≤ tooLarge → Ending {A = A} file count (refused told) →
+    (count ≡ told .place) × (numberAt file count ≡ oneFault (told .number))
 fault-ending most (bytes-left h) = absurd (omega (arith, most))
 fault-ending most (has-fault h) = (refl, h)
 fault-ending most (not-allowed its h) = absurd (omega (arith, most, its))
 
 -- for 4 to 8: the number at its place is the last
 field-ending :
-    {A : Type 0} {file : List ℕ} {count number place : ℕ} → (numberOf WrongEdition) ≤ number → number ≤ (numberOf WrongLine) →
-    Ending {A = A} file count (refused number place) → count ≡ suc place
+    {A : Type 0} {file : List ℕ} {count : ℕ} {told : Notice} → numberOf WrongEdition ≤ told .number → told .number ≤ numberOf WrongLine →
+    Ending {A = A} file count (refused told) → count ≡ suc (told .place)
 field-ending least most (bytes-left h) = absurd (omega (arith, most))
-field-ending {file} {count} {number} least most (has-fault h) = absurd (omega (arith, least, faults file (startOf file count) number h .1))
+field-ending {file} {count} {told} least most (has-fault h) = absurd (omega (arith, least, faults file (startOf file count) (told .number) h .1))
 field-ending least most (not-allowed its h) = h
 
 -- for 9: there are as many numbers as its place says, and bytes after them
 after-ending :
-    {A : Type 0} {file : List ℕ} {count place : ℕ} → Ending {A = A} file count (refused (numberOf BytesAfter) place) →
-    (count ≡ place) × (startOf file count < length file)
-after-ending (bytes-left h) = (refl, h)
-after-ending {file} {count} (has-fault h) = absurd (omega (arith, faults file (startOf file count) (numberOf BytesAfter) h .1))
-after-ending (not-allowed its h) = absurd (omega (arith, its))
+    {A : Type 0} {file : List ℕ} {count : ℕ} {told : Notice} → told .number ≡ numberOf BytesAfter → Ending {A = A} file count (refused told) →
+    (count ≡ told .place) × (startOf file count < length file)
+after-ending nine (bytes-left h) = (refl, h)
+after-ending {file} {count} {told} nine (has-fault h) = absurd (omega (arith, nine, faults file (startOf file count) (told .number) h .1))
+after-ending nine (not-allowed its h) = absurd (omega (arith, nine, its))
 
 -- and there is no other
-early-ending : {A : Type 0} {file : List ℕ} {count number place : ℕ} → Ending {A = A} file count (refused number place) → number ≤ (numberOf BytesAfter)
+early-ending : {A : Type 0} {file : List ℕ} {count : ℕ} {told : Notice} → Ending {A = A} file count (refused told) → told .number ≤ numberOf BytesAfter
 early-ending (bytes-left h) = omega arith
-early-ending {file} {count} {number} (has-fault h) = omega (arith, faults file (startOf file count) number h .1)
+early-ending {file} {count} {told} (has-fault h) = omega (arith, faults file (startOf file count) (told .number) h .1)
 early-ending (not-allowed its h) = omega (arith, its)
 
-module _ (file : RefT (List ℕ)) (plantTable segmentTable : ℕ) where
-  -- a refusal up to 9 is how reading ended
-  refused-ending :
-      (number place : ℕ) → quantified (now file) plantTable segmentTable ≡ refusal number place → number ≤ (numberOf BytesAfter) →
-      Ending {A = Period} (now file) (steps file) (refused number place)
-  unfolding quantified
-  refused-ending number place is early = rw (from-reading plantTable segmentTable number place (periodFile (now file)) is early) at (ending file)
+-- in each case there are at least as many numbers as its place says, and its offset is where the next one starts
+offset-ending :
+    {A : Type 0} {file : List ℕ} {count : ℕ} {told : Notice} → Ending {A = A} file count (refused told) →
+    (told .place ≤ count) × (told .offset ≡ startOf file (told .place))
+offset-ending (bytes-left h) = (omega arith, refl)
+offset-ending (has-fault h) = (omega arith, refl)
+offset-ending (not-allowed its h) = (omega (arith, h), refl)
 
-  -- 1, 2 or 3: the walk stops with that fault after as many steps as the place says
+-- the first steps of a walk are a walk
+first-steps :
+    {reader last : Inspector} {values : List ℕ} (k : ℕ) → k ≤ length values → Walks reader values last →
+    (middle : Inspector) × Walks reader (take k values) middle
+first-steps {reader} zero few walks = (reader, there)
+first-steps (suc k) few there = absurd (omega (arith, few))
+first-steps (suc k) few (step is-number more) = let (middle, walks) = first-steps k (omega (arith, few)) more in (middle, step is-number walks)
+
+module _ (file : RefT (List ℕ)) (plantTable segmentTable : ℕ) (told : Notice) (is : quantified (now file) plantTable segmentTable ≡ refusal told) where
+  -- a refusal up to 9 is how reading ended
+  refused-ending : told .number ≤ numberOf BytesAfter → Ending {A = Period} (now file) (steps file) (refused told)
+  unfolding quantified
+  refused-ending early = rw (from-reading (now file) plantTable segmentTable told (periodFile (now file)) is early) at (ending file)
+
+  -- after as many steps as the place says, the reader stands at the offset
+  pub offset-walked :
+      told .number ≤ numberOf BytesAfter →
+      (length (take (told .place) (consumed (now file))) ≡ told .place)
+      × Walks (begun file) (take (told .place) (consumed (now file))) (record { file = file; at = told .offset })
+  offset-walked early =
+      let (few, offset-is) = offset-ending (refused-ending early) in
+      let (middle, walks) = first-steps (told .place) few (consumed-walked file .walks) in
+      let so-many : length (take (told .place) (consumed (now file))) ≡ told .place = length-take-le (told .place) (consumed (now file)) few in
+      let there-is : middle ≡ atByte file (told .offset) = stands walks ∙ ap (atByte file) (ap (startOf (now file)) so-many ∙ sym offset-is) in
+      (so-many, rw there-is at walks)
+
+  -- 1, 2 or 3: the walk stops with that fault at the offset, after as many steps as the place says
   pub refused-walked :
-      (number place : ℕ) → quantified (now file) plantTable segmentTable ≡ refusal number place → number ≤ tooLarge →
-      (length (consumed (now file)) ≡ place) × Stops file (consumed (now file)) number (startOf (now file) place)
-  refused-walked number place is most =
-      let (count-is, e) = fault-ending most (refused-ending number place is (omega (arith, most))) in
-      (count-is, rw count-is at (consumed-stops file e))
+      told .number ≤ tooLarge → (length (consumed (now file)) ≡ told .place) × Stops file (consumed (now file)) (told .number) (told .offset)
+  refused-walked most =
+      let ends-so = refused-ending (omega (arith, most)) in
+      let (count-is, e) = fault-ending most ends-so in
+      let offset-is = offset-ending ends-so .1 in
+      (count-is, rw (ap (startOf (now file)) count-is ∙ sym offset-is) at (consumed-stops file e))
 
   -- 4 to 8: the walk gives the refused number as its last
   pub field-refused-counted :
-      (number place : ℕ) → quantified (now file) plantTable segmentTable ≡ refusal number place → (numberOf WrongEdition) ≤ number → number ≤ (numberOf WrongLine) →
-      length (consumed (now file)) ≡ suc place
-  field-refused-counted number place is least most = field-ending least most (refused-ending number place is (omega (arith, most)))
+      numberOf WrongEdition ≤ told .number → told .number ≤ numberOf WrongLine → length (consumed (now file)) ≡ suc (told .place)
+  field-refused-counted least most = field-ending least most (refused-ending (omega (arith, most)))
 
-  -- 9: the walk gives as many numbers as the place says, and the reader then stands before the end
+  -- 9: the walk gives as many numbers as the place says, and the reader then stands at the offset, before the end
   pub bytes-after-counted :
-      (place : ℕ) → quantified (now file) plantTable segmentTable ≡ refusal (numberOf BytesAfter) place →
-      (length (consumed (now file)) ≡ place) × (startOf (now file) place < length (now file))
-  bytes-after-counted place is =
-      let (count-is, before) = after-ending (refused-ending (numberOf BytesAfter) place is (omega arith)) in
-      (count-is, rw count-is at before)
+      told .number ≡ numberOf BytesAfter → (length (consumed (now file)) ≡ told .place) × (told .offset < length (now file))
+  bytes-after-counted nine =
+      let ends-so = refused-ending (omega (arith, nine)) in
+      let (count-is, before) = after-ending nine ends-so in
+      (count-is, rw (ap (startOf (now file)) count-is ∙ sym (offset-ending ends-so .1)) at before)
 
   -- 10 to 15: the file is read to its end, since reading refuses with 9 at most
-  pub late-refused-walked :
-      (number place : ℕ) → quantified (now file) plantTable segmentTable ≡ refusal number place → (numberOf BytesAfter) < number →
-      Stops file (consumed (now file)) ends (length (now file))
+  pub late-refused-walked : numberOf BytesAfter < told .number → Stops file (consumed (now file)) ends (length (now file))
   unfolding quantified
-  late-refused-walked number place is late = by-reading (periodFile (now file)) refl is
+  late-refused-walked late = by-reading (periodFile (now file)) refl is
     where
       by-reading :
-          (outcome : Read Period) → periodFile (now file) ≡ outcome → afterReading outcome plantTable segmentTable ≡ refusal number place →
+          (outcome : Read Period) → periodFile (now file) ≡ outcome → afterReading (now file) outcome plantTable segmentTable ≡ refusal told →
           Stops file (consumed (now file)) ends (length (now file))
-      by-reading (refused found at) is e =
-          let same : found ≡ number = cc in
-          absurd (omega (arith, late, same, early-ending (rw is at (ending file))))
-      by-reading (read what at rest) is e = read-walked file is
+      by-reading (refused found) is e =
+          let same : found ≡ told = cc in
+          absurd (omega (arith, late, ap (λ (n : Notice). n .number) same, early-ending (rw is at (ending file))))
+      by-reading (read what place at) is e = read-walked file is

@@ -3,21 +3,22 @@ use Prim.Native.Nat.{ℕ}
 use mathlib.Core.Path.{_≡_}
 use mathlib.Core.List.{List}
 use denote.Ref.{RefT, now}
-use Rattle.number.specs.declared.Number.{Number}
-use Rattle.number.specs.Reading.{Found, readAt}
-use Rattle.number.specs.Finding.{finds}
+use Rattle.number.specs.declared.Report.{Report}
+use Rattle.number.specs.Reading.{Found, readAt, offsetAt}
+use Rattle.number.specs.Finding.{finds, ReadAtPromise}
 use Rattle.number.specs.Counting.{endOf}
 use Rattle.inspector.specs.declared.Inspector.{Inspector}
 use Rattle.inspector.specs.declared.step.Step.{Step}
 
--- What a step finds, and the byte where the reader stands after it.
+-- What a step finds, its offset, and the byte where the reader stands after it.
 pub record Stepped : Type 0 where
   pub found : Found
+  pub offset : ℕ
   pub at : ℕ
 
--- A step at a byte: what number reading finds there, and the byte behind that number; at a fault or the end the same byte (rule 11.3).
+-- A step at a byte: what number reading reports there, and the byte behind that number; at a fault or the end the same byte (rule 11.3).
 abbrev pub stepAt : List ℕ → ℕ → Stepped
-stepAt file at = record { found = readAt file at; at = endOf at (readAt file at) }
+stepAt file at = record { found = readAt file at; offset = offsetAt file at; at = endOf at (readAt file at) }
 
 -- A reader at the start of a file (rule 11.3).
 abbrev pub begun : RefT (List ℕ) → Inspector
@@ -37,7 +38,7 @@ stepped reader = record { file = reader .file; at = stepAt (now (reader .file)) 
 
 -- The code's step, as the definitions have it.
 abbrev pub steppedBy : Step → Stepped
-steppedBy step = record { found = finds (step .found); at = step .at }
+steppedBy step = record { found = finds (step .report .number); offset = step .report .offset; at = step .at }
 
 -- ---- what the public functions promise
 -- `Inspector::new`
@@ -48,9 +49,9 @@ InspectorNewPromise file r = r ≡ begun file
 abbrev pub InspectorAtPromise : Inspector → ℕ → Type 0
 InspectorAtPromise reader r = r ≡ standsAt reader
 
--- `Inspector::step`: what it finds, and the reader afterwards.
-pub record StepPromise (reader : Inspector) (r : Number) (reader' : Inspector) : Type 0 where
-  pub found : finds r ≡ findsNext reader
+-- `Inspector::step`: what number reading reports, and the reader afterwards.
+pub record StepPromise (reader : Inspector) (r : Report) (reader' : Inspector) : Type 0 where
+  pub reported : ReadAtPromise (now (reader .file)) (reader .at) r
   pub moved : reader' ≡ stepped reader
 
 -- `step_at`

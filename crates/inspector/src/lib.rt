@@ -12,7 +12,7 @@ pub use crate::field::Field;
 pub use crate::field::field_at;
 pub use crate::step::Step;
 pub use crate::step::step_at;
-use number::Number;
+use number::Report;
 use number::read_at;
 
 // A reader of a file.
@@ -38,12 +38,12 @@ impl<'a> Inspector<'a> {
         self.at
     }
 
-    // Answers what number reading finds at its byte, and goes behind that number; at a fault or the end it stays (rule 11.3).
-    pub fn step<'s>(&'s mut self) -> Number
+    // Answers what number reading reports at its byte, and goes behind that number; at a fault or the end it stays (rule 11.3).
+    pub fn step<'s>(&'s mut self) -> Report
         ensures { λ r. ⌜ StepPromise (now (self .entry)) r (now (self .exit)) ⌝ }
     {
-        let found = read_at(self.file, self.at);
-        self.at = after(found, self.at);
-        found
+        let report = read_at(self.file, self.at);
+        self.at = after(report, self.at);
+        report
     }
 }

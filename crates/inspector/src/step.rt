@@ -1,11 +1,11 @@
 // One step for a caller that holds a file and a byte, and no reader (rule 11.3).
 ghost use Rattle.inspector.specs.Reader.{StepAtPromise};
 use crate::Inspector;
-use number::Number;
+use number::Report;
 
-// What a step found, and where the reader stands after it.
+// What a step reports, and where the reader stands after it.
 pub struct Step {
-    pub found: Number,
+    pub report: Report,
     pub at: usize,
 }
 
@@ -14,9 +14,9 @@ pub fn step_at(file: &[u8], at: usize) -> Step
     ensures { λ r. ⌜ StepAtPromise (now (file .entry)) at r ⌝ }
 {
     let mut inspector = Inspector { file, at };
-    let found = inspector.step();
+    let report = inspector.step();
     Step {
-        found,
+        report,
         at: inspector.at(),
     }
 }

@@ -11,23 +11,23 @@ use Rattle.output.proofs.Room.{spaced-long}
 use Rattle.names.specs.FieldWords.{headerWords, plantWords, segmentWords, lineWords, fieldText, mostFieldWords}
 
 -- ---- the last field
-pub header-last : (field : ℕ) → 2 < field → headerWords field ≡ ascii " lines\n"
+pub header-last : (field : ℕ) → 2 < field → headerWords field ≡ ascii " lines"
 header-last zero more = absurd (omega arith)
 header-last (suc zero) more = absurd (omega arith)
 header-last (suc (suc zero)) more = absurd (omega arith)
 header-last (suc (suc (suc field))) more = refl
 
-pub plant-last : (field : ℕ) → 1 < field → plantWords field ≡ ascii " origin fraction\n"
+pub plant-last : (field : ℕ) → 1 < field → plantWords field ≡ ascii " origin fraction"
 plant-last zero more = absurd (omega arith)
 plant-last (suc zero) more = absurd (omega arith)
 plant-last (suc (suc field)) more = refl
 
-pub segment-last : (field : ℕ) → 1 < field → segmentWords field ≡ ascii " next segment\n"
+pub segment-last : (field : ℕ) → 1 < field → segmentWords field ≡ ascii " next segment"
 segment-last zero more = absurd (omega arith)
 segment-last (suc zero) more = absurd (omega arith)
 segment-last (suc (suc field)) more = refl
 
-pub line-last : (field : ℕ) → 3 < field → lineWords field ≡ ascii " factor\n"
+pub line-last : (field : ℕ) → 3 < field → lineWords field ≡ ascii " factor"
 line-last zero more = absurd (omega arith)
 line-last (suc zero) more = absurd (omega arith)
 line-last (suc (suc zero)) more = absurd (omega arith)
@@ -48,7 +48,7 @@ header-words-long (suc (suc (suc field))) = omega arith
 
 -- the most bytes of the name behind a record's number
 abbrev mostName : ℕ
-mostName = 17
+mostName = 16
 
 plant-words-long : (field : ℕ) → length (plantWords field) ≤ mostName
 plant-words-long zero = omega arith

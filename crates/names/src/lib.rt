@@ -1,4 +1,4 @@
-// Puts the words for a field, up to the end of the line, into a lent buffer (rule 11.5).
+// Puts the words for a field into a lent buffer (rule 11.5).
 ghost use mathlib.Core.List.{_++_};
 ghost use Rattle.output.specs.Lines.{spaced};
 ghost use Rattle.output.specs.Put.{Put};
@@ -8,7 +8,7 @@ use output::put_spaced;
 use output::put_words;
 
 // The most bytes of a field's words, without its record's number.
-pub const MOST_FIELD_WORDS: usize = 25;
+pub const MOST_FIELD_WORDS: usize = 24;
 
 // Puts which field of which record it is (rule 11.5).
 pub fn put_field(buffer: &mut [u8], at: usize, field: Field) -> usize
@@ -19,8 +19,8 @@ pub fn put_field(buffer: &mut [u8], at: usize, field: Field) -> usize
         Field::Plant { number, field } => put_plant_field(buffer, at, number, field),
         Field::Segment { number, field } => put_segment_field(buffer, at, number, field),
         Field::Line { number, field } => put_line_field(buffer, at, number, field),
-        Field::After => put_words(buffer, at, b" after the last number\n"),
-        Field::Untold => put_words(buffer, at, b" not told by the header\n"),
+        Field::After => put_words(buffer, at, b" after the last number"),
+        Field::Untold => put_words(buffer, at, b" not told by the header"),
     }
 }
 
@@ -29,10 +29,10 @@ fn put_header_field(buffer: &mut [u8], at: usize, field: u64) -> usize
     ensures { λ r. ⌜ Put (headerWords field) at (now (buffer .entry)) r (now (buffer .exit)) ⌝ }
 {
     match field {
-        0 => put_words(buffer, at, b" edition\n"),
-        1 => put_words(buffer, at, b" plants\n"),
-        2 => put_words(buffer, at, b" segments\n"),
-        _ => put_words(buffer, at, b" lines\n"),
+        0 => put_words(buffer, at, b" edition"),
+        1 => put_words(buffer, at, b" plants"),
+        2 => put_words(buffer, at, b" segments"),
+        _ => put_words(buffer, at, b" lines"),
     }
 }
 
@@ -42,9 +42,9 @@ fn put_plant_field(buffer: &mut [u8], at: usize, number: u64, field: u64) -> usi
 {
     let at = put_record(buffer, at, b" plant", number);
     match field {
-        0 => put_words(buffer, at, b" exported\n"),
-        1 => put_words(buffer, at, b" first segment\n"),
-        _ => put_words(buffer, at, b" origin fraction\n"),
+        0 => put_words(buffer, at, b" exported"),
+        1 => put_words(buffer, at, b" first segment"),
+        _ => put_words(buffer, at, b" origin fraction"),
     }
 }
 
@@ -54,9 +54,9 @@ fn put_segment_field(buffer: &mut [u8], at: usize, number: u64, field: u64) -> u
 {
     let at = put_record(buffer, at, b" segment", number);
     match field {
-        0 => put_words(buffer, at, b" kind\n"),
-        1 => put_words(buffer, at, b" metered outflow\n"),
-        _ => put_words(buffer, at, b" next segment\n"),
+        0 => put_words(buffer, at, b" kind"),
+        1 => put_words(buffer, at, b" metered outflow"),
+        _ => put_words(buffer, at, b" next segment"),
     }
 }
 
@@ -66,11 +66,11 @@ fn put_line_field(buffer: &mut [u8], at: usize, number: u64, field: u64) -> usiz
 {
     let at = put_record(buffer, at, b" line", number);
     match field {
-        0 => put_words(buffer, at, b" owner kind\n"),
-        1 => put_words(buffer, at, b" owner number\n"),
-        2 => put_words(buffer, at, b" class\n"),
-        3 => put_words(buffer, at, b" quantity\n"),
-        _ => put_words(buffer, at, b" factor\n"),
+        0 => put_words(buffer, at, b" owner kind"),
+        1 => put_words(buffer, at, b" owner number"),
+        2 => put_words(buffer, at, b" class"),
+        3 => put_words(buffer, at, b" quantity"),
+        _ => put_words(buffer, at, b" factor"),
     }
 }
 

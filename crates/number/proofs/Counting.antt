@@ -5,9 +5,9 @@ use mathlib.Core.List.{List}
 use native.Mathlib.Omega.{arith}
 use lib.ListN.{length}
 use Rattle.number.specs.Groups.{largest}
-use Rattle.number.specs.Reading.{Found, number, fault}
+use Rattle.number.specs.Reading.{Found, number, fault, offsetAt}
 use Rattle.number.specs.Counting.{endOf, startOf, numberAt, valueIn, valueAt}
-use Rattle.number.proofs.Laws.{bounds}
+use Rattle.number.proofs.Laws.{bounds, offset-inside}
 
 module _ (file : List ℕ) where
   -- the first number starts at the first byte
@@ -39,6 +39,10 @@ module _ (file : List ℕ) where
       by-number : (found : Found) → numberAt file k ≡ found → startOf file k ≤ length file → startOf file (suc k) ≤ length file
       by-number (number value next) is before = rw (next-start k is) (bounds file (startOf file k) value next is .inside)
       by-number (fault refusal) is before = rw (same-start k is) before
+
+  -- so the offset of number k, as number reading reports it, is where it starts
+  pub start-told : (k : ℕ) → offsetAt file (startOf file k) ≡ startOf file k
+  start-told k = offset-inside file (startOf file k) (starts-inside k)
 
   -- no value is over the largest
   pub value-most : (k : ℕ) → valueAt file k ≤ largest

@@ -8,7 +8,7 @@ use native.Mathlib.Omega.{arith}
 use lib.ListN.{length, take, drop, length-take, length-drop, drop-of-length-le}
 use lib.Seq.{drop-append-le, drop-append-add, take-nil}
 use Rattle.number.specs.Groups.{Gathering, gather, mostGroups, largest}
-use Rattle.number.specs.Reading.{Found, from, foundOf, reading, readAt, ends, tooLarge}
+use Rattle.number.specs.Reading.{Found, from, foundOf, reading, readAt, offsetAt, ends, tooLarge}
 use Rattle.number.specs.Reading.Found.{number, fault}
 use Rattle.number.proofs.Gathering.{gather-after, gather-take}
 use Rattle.number.proofs.FrontGroups.{Fronts, some, most, within, alone}
@@ -60,6 +60,17 @@ bounds file at v n e =
     let s = size (drop at file) v m q in
     let left = length-drop at file in
     record { later = omega arith; near = omega arith; inside = omega arith; small = s .small }
+
+-- ---- the offset of what is at a byte of the file is that byte, and it never lies past the end
+pub offset-inside : (file : List ℕ) (at : ℕ) → at ≤ length file → offsetAt file at ≡ at
+offset-inside file at inside = omega (arith, inside)
+
+pub offset-most : (file : List ℕ) (at : ℕ) → offsetAt file at ≤ length file
+offset-most file at = omega arith
+
+-- a number that is there starts at it
+pub offset-of-number : (file : List ℕ) (at v n : ℕ) → readAt file at ≡ number v n → offsetAt file at ≡ at
+offset-of-number file at v n e = let b = bounds file at v n e in omega (arith, b .later, b .inside)
 
 -- ---- a fault is one of three
 pub front-faults : (bytes : List ℕ) (k : ℕ) → reading bytes ≡ fault k → (ends ≤ k) × (k ≤ tooLarge)

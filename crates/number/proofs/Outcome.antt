@@ -1,14 +1,15 @@
 -- No two outcomes meet the promise of number reading: what an answer says determines the answer.
 use Prim.Native.Nat.{ℕ}
-use mathlib.Core.Path.{_≡_, refl, sym, ap, _∙_}
+use mathlib.Core.Path.{_≡_, refl, sym, ap, ap₂, _∙_}
 use mathlib.Core.List.{List}
 use mathlib.Core.Bool.{cond}
 use lib.Dec.{eqb}
 use Rattle.number.specs.declared.Number.{Number}
 use Rattle.number.specs.declared.Number.the-variants.{Value, Ends, NotShortest, TooLarge}
+use Rattle.number.specs.declared.Report.{Report}
 use Rattle.number.specs.Reading.{Found, ends, notShortest}
 use Rattle.number.specs.Reading.Found.{number, fault}
-use Rattle.number.specs.Finding.{finds, ReadAtPromise, NumberRefusalPromise}
+use Rattle.number.specs.Finding.{finds, ReadAtPromise, NumberRefusalPromise, BytesAtPromise}
 
 -- the answer that says it
 finding : Found → Number
@@ -27,10 +28,16 @@ found-back TooLarge = refl
 pub finds-once : (r s : Number) → finds r ≡ finds s → r ≡ s
 finds-once r s e = sym (found-back r) ∙ ap finding e ∙ found-back s
 
--- `read_at`: two answers that meet its promise, of one file at one byte, are the same
-pub one-reading : (file : List ℕ) (at : ℕ) (r s : Number) → ReadAtPromise file at r → ReadAtPromise file at s → r ≡ s
-one-reading file at r s p q = finds-once r s (p ∙ sym q)
+-- `read_at`: two reports that meet its promise, of one file at one byte, are the same
+pub one-reading : (file : List ℕ) (at : ℕ) (r s : Report) → ReadAtPromise file at r → ReadAtPromise file at s → r ≡ s
+one-reading file at r s p q =
+    ap₂ (λ (n : Number) (o : ℕ). record { number = n; offset = o })
+    (finds-once (r .number) (s .number) (p .number ∙ sym (q .number))) (p .offset ∙ sym (q .offset))
 
 -- `Number::refusal`: its promise gives the result itself
 pub one-refusal : (found : Number) (r s : ℕ) → NumberRefusalPromise found r → NumberRefusalPromise found s → r ≡ s
 one-refusal found r s p q = p ∙ sym q
+
+-- `bytes_at`: so does its promise
+pub one-count : (file : List ℕ) (at : ℕ) (r s : ℕ) → BytesAtPromise file at r → BytesAtPromise file at s → r ≡ s
+one-count file at r s p q = p ∙ sym q

@@ -55,3 +55,9 @@ value (g ∷ gs) = value gs * radix + g
 -- Not the shortest form: more than one group, and the last is zero (rule 1.3).
 unfoldable pub padded : List ℕ → Bool
 padded groups = ltb 1 (length groups) && eqb (getD groups (length groups - 1) 0) 0
+
+-- The bytes that belong to a number, with a given number of groups still allowed: up to and with the first after which none follows (rule 1.8).
+unfoldable pub ownBytes : ℕ → List ℕ → List ℕ
+ownBytes zero bytes = []
+ownBytes (suc allowed) [] = []
+ownBytes (suc allowed) (byte ∷ bytes) = byte ∷ cond (follows byte) (ownBytes allowed bytes) []

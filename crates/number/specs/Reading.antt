@@ -1,10 +1,10 @@
 -- Reading the number at a byte of a file, and its faults in the order of rule 1.5.
-use Prim.Native.Nat.{ℕ, _+_}
+use Prim.Native.Nat.{ℕ, _+_, min}
 use mathlib.Core.List.{List}
 use mathlib.Core.Bool.{cond}
 use lib.ListN.{length, drop}
 use lib.Dec.{leb}
-use Rattle.number.specs.Groups.{Gathering, gather, value, padded, mostGroups, largest}
+use Rattle.number.specs.Groups.{Gathering, gather, value, padded, ownBytes, mostGroups, largest}
 use Rattle.number.specs.Groups.Gathering.{whole, cut, long}
 
 -- Fault 1: the bytes end within the number, or before it (rule 1.5).
@@ -46,3 +46,11 @@ from at (fault k) = fault k
 -- The number, or its fault, at a byte of the file: by the bytes from there on alone (rule 1.6).
 unfoldable pub readAt : List ℕ → ℕ → Found
 readAt file at = from at (reading (drop at file))
+
+-- The offset of what is at a byte: that byte; past the end of the file, where no byte of a number is, the file's length (rule 1.7).
+abbrev pub offsetAt : List ℕ → ℕ → ℕ
+offsetAt file at = min at (length file)
+
+-- The bytes of the number at a byte of the file, also if it has a fault (rule 1.8).
+abbrev pub bytesAt : List ℕ → ℕ → List ℕ
+bytesAt file at = ownBytes mostGroups (drop at file)

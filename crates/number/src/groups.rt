@@ -9,7 +9,7 @@ ghost use Rattle.number.specs.Inside.{AreGroups, Came, Counted, gathered
 use crate::Number;
 
 // A group has seven bits: a byte of 128 or more says that another group follows (rule 1.1).
-const RADIX: u64 = 128;
+pub(crate) const RADIX: u64 = 128;
 
 // How the groups of a number ended.
 pub(crate) enum Ending {

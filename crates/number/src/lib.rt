@@ -1,10 +1,16 @@
-// Number reading: the number, or its fault, at a byte of a lent file (rules 1.1 to 1.6).
+// Number reading: the number, or its fault, at a byte of a lent file, with its offset (rules 1.1 to 1.7).
 //
 // Every layer above reads its numbers through read_at, and uses only its promise and the laws of proofs/.
 // No law above opens the definitions; worked examples do, to compute.
+pub mod bytes;
 mod groups;
 
-ghost use Rattle.number.specs.Finding.{NumberRefusalPromise, ReadAtPromise};
+ghost use Prim.Native.Nat.{_<_};
+ghost use mathlib.Core.Path.{_≡_};
+ghost use lib.ListN.{length};
+ghost use Rattle.number.specs.Reading.{readAt};
+ghost use Rattle.number.specs.Finding.{finds, NumberRefusalPromise, ReadAtPromise};
+pub use crate::bytes::bytes_at;
 use crate::groups::Ending;
 use crate::groups::form;
 use crate::groups::gather;
@@ -40,13 +46,33 @@ impl Number {
     }
 }
 
-// The number, or its fault, at a byte of the file (rules 1.1 to 1.6). Any byte may be asked for: past the end it is fault 1.
-pub fn read_at(file: &[u8], at: usize) -> Number
+// What number reading reports: the number or its fault, and the offset of its first byte (rules 1.6 and 1.7).
+pub struct Report {
+    pub number: Number,
+    pub offset: usize,
+}
+
+// What is at a byte of the file, with its offset (rules 1.1 to 1.7). Any byte may be asked for: past the end it is fault 1.
+pub fn read_at(file: &[u8], at: usize) -> Report
     ensures { λ r. ⌜ ReadAtPromise (now (file .entry)) at r ⌝ }
 {
     if file.len() <= at {
-        return Number::Ends;
+        return Report {
+            number: Number::Ends,
+            offset: file.len(),
+        };
     }
+    Report {
+        number: number_at(file, at),
+        offset: at,
+    }
+}
+
+// The number, or its fault, at a byte that is there (rules 1.1 to 1.6).
+fn number_at(file: &[u8], at: usize) -> Number
+    requires { ⌜ at < length (now file) ⌝ }
+    ensures { λ r. ⌜ finds r ≡ readAt (now (file .entry)) at ⌝ }
+{
     let mut groups = [0u64; Number::GROUPS];
     match gather(&file[at..], &mut groups) {
         Ending::Cut => Number::Ends,

@@ -1,4 +1,4 @@
--- Lines, number by number, and the rows of a table, row by row.
+-- Lines, number by number; bytes, one by one; and the rows of a table, row by row.
 use Prim.Native.Nat.{ℕ, _+_, _-_, _*_, _/_, _≤_, _<_}
 use mathlib.Core.Path.{_≡_, refl, sym, ap, _∙_}
 use mathlib.Core.List.{List, [], _∷_, _++_, append-nil, append-assoc, flatMap}
@@ -7,37 +7,37 @@ use native.Mathlib.Nat.{div-mul-le-self, mul-le-mul-left}
 use native.Mathlib.Omega.{arith}
 use lib.ListN.{length, take, drop, getD}
 use lib.Seq.{take-suc, take-all}
-use Rattle.output.specs.Lines.{spaced, allSpaced, textLine, rowsText}
+use Rattle.output.specs.Lines.{spaced, textLine, rowsText}
 use Rattle.output.specs.Put.{Put}
 use Rattle.output.proofs.Putting.{put-then}
 
--- ---- the numbers of a line
--- one list of numbers after another
-spaced-append : (front back : List ℕ) → allSpaced (front ++ back) ≡ allSpaced front ++ allSpaced back
-unfolding flatMap
-spaced-append [] back = refl
-spaced-append (number ∷ front) back =
-    ap (λ (rest : List ℕ). spaced number ++ rest) (spaced-append front back) ∙ sym (append-assoc (spaced number) (allSpaced front) (allSpaced back))
+-- ---- numbers or bytes, each put as a text of its own
+module _ (text : ℕ → List ℕ) where
+  -- one list of them after another
+  text-append : (front back : List ℕ) → flatMap text (front ++ back) ≡ flatMap text front ++ flatMap text back
+  unfolding flatMap
+  text-append [] back = refl
+  text-append (one ∷ front) back =
+      ap (λ (rest : List ℕ). text one ++ rest) (text-append front back) ∙ sym (append-assoc (text one) (flatMap text front) (flatMap text back))
 
--- one number more
-spaced-more : (numbers : List ℕ) (n : ℕ) → n < length numbers → allSpaced (take (n + 1) numbers) ≡ allSpaced (take n numbers) ++ spaced (getD numbers n 0)
-unfolding flatMap
-spaced-more numbers n inside =
-    rw (add-one, take-suc numbers n 0 inside)
-    (spaced-append (take n numbers) (getD numbers n 0 ∷ [])
-    ∙ ap (λ (last : List ℕ). allSpaced (take n numbers) ++ last) (append-nil (spaced (getD numbers n 0))))
+  -- one more
+  text-more : (all : List ℕ) (n : ℕ) → n < length all → flatMap text (take (n + 1) all) ≡ flatMap text (take n all) ++ text (getD all n 0)
+  unfolding flatMap
+  text-more all n inside =
+      rw (add-one, take-suc all n 0 inside)
+      (text-append (take n all) (getD all n 0 ∷ [])
+      ∙ ap (λ (last : List ℕ). flatMap text (take n all) ++ last) (append-nil (text (getD all n 0))))
 
-module _ {at : ℕ} {buffer : List ℕ} {end : ℕ} {buffer' : List ℕ} where
-  -- a line's numbers, one more put
-  pub number-more :
-      (numbers : List ℕ) (n : ℕ) {end' : ℕ} {buffer'' : List ℕ} → n < length numbers → Put (allSpaced (take n numbers)) at buffer end buffer' →
-      Put (spaced (getD numbers n 0)) end buffer' end' buffer'' → Put (allSpaced (take (n + 1) numbers)) at buffer end' buffer''
-  number-more numbers n inside past next = rw (spaced-more numbers n inside) (put-then past next)
+  module _ {at : ℕ} {buffer : List ℕ} {end : ℕ} {buffer' : List ℕ} where
+    -- one more is put
+    pub one-more :
+        (all : List ℕ) (n : ℕ) {end' : ℕ} {buffer'' : List ℕ} → n < length all → Put (flatMap text (take n all)) at buffer end buffer' →
+        Put (text (getD all n 0)) end buffer' end' buffer'' → Put (flatMap text (take (n + 1) all)) at buffer end' buffer''
+    one-more all n inside past next = rw (text-more all n inside) (put-then past next)
 
-  -- all are put
-  pub numbers-all :
-      (numbers : List ℕ) (n : ℕ) → length numbers ≤ n → Put (allSpaced (take n numbers)) at buffer end buffer' → Put (allSpaced numbers) at buffer end buffer'
-  numbers-all numbers n all past = rw (take-all n numbers all) at past
+    -- all are put
+    pub all-put : (all : List ℕ) (n : ℕ) → length all ≤ n → Put (flatMap text (take n all)) at buffer end buffer' → Put (flatMap text all) at buffer end buffer'
+    all-put all n done past = rw (take-all n all done) at past
 
 -- ---- a row
 -- Its letter, its record's own number and a line of its numbers are one line.

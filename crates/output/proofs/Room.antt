@@ -5,6 +5,7 @@ use native.Mathlib.Nat.{le-trans, mul-comm, suc-mul, mul-le-mul-right, div-lt-if
 use native.Mathlib.Omega.{arith}
 use lib.ListN.{length, take, drop, length-append, length-take}
 use Rattle.output.specs.Lines.{spaced, mostSpaced, allSpaced, textLine, rowText, rowsText, tableText, rowSigns, mostInRows}
+use Rattle.output.specs.Hexadecimal.{byteText, bytesText, mostByteText}
 use Rattle.output.specs.Put.{Put}
 use Rattle.output.proofs.Decimals.{decimal-long}
 
@@ -17,6 +18,12 @@ unfolding flatMap
 all-spaced-long [] = omega arith
 all-spaced-long (number ∷ numbers) =
     rw (length-append (spaced number) (allSpaced numbers)) (omega (arith, spaced-long number, all-spaced-long numbers))
+
+-- ---- bytes in hexadecimal
+pub bytes-long : (bytes : List ℕ) → length (bytesText bytes) ≤ mostByteText * length bytes
+unfolding flatMap
+bytes-long [] = omega arith
+bytes-long (byte ∷ bytes) = rw (length-append (byteText byte) (bytesText bytes)) (omega (arith, bytes-long bytes))
 
 -- ---- a line
 pub line-long : (words numbers : List ℕ) → length (textLine words numbers) ≤ length words + mostSpaced * length numbers + 1

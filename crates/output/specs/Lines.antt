@@ -3,7 +3,7 @@ use Prim.Native.Nat.{ℕ, zero, suc, _+_, _*_, _/_}
 use mathlib.Core.List.{List, [], _∷_, _++_, flatMap}
 use lib.ListN.{length, take, drop}
 use Rattle.fields.specs.declared.answer.Refusal.{Refusal}
-use Rattle.fields.specs.Reasons.{numberOf}
+use Rattle.fields.specs.Answers.{Notice, noticeOf}
 use Rattle.output.specs.Words.{ascii}
 use Rattle.output.specs.Decimal.{mostDigits, decimal}
 
@@ -27,13 +27,13 @@ lineEnd = ascii "\n"
 unfoldable pub textLine : (words numbers : List ℕ) → List ℕ
 textLine words numbers = words ++ allSpaced numbers ++ lineEnd
 
--- The line of a refused file: R, the number of refusal, the place (rule 11.2).
-abbrev pub refusalText : (number place : ℕ) → List ℕ
-refusalText number place = textLine (ascii "R") (number ∷ place ∷ [])
+-- The line of a refused file: R, the number of refusal, the place, the offset (rule 11.2).
+abbrev pub refusalText : Notice → List ℕ
+refusalText notice = textLine (ascii "R") (notice .number ∷ notice .place ∷ notice .offset ∷ [])
 
 -- The same for a refusal as the code holds it.
 abbrev pub refusalLine : Refusal → List ℕ
-refusalLine refusal = refusalText (numberOf (refusal .reason)) (refusal .place)
+refusalLine refusal = refusalText (noticeOf refusal)
 
 -- The row at an index, from 0: the letter, the record's number, from 1, and the row's `width` numbers.
 abbrev pub rowText : (letter : List ℕ) (width : ℕ) → List ℕ → (index : ℕ) → List ℕ

@@ -22,12 +22,12 @@ pub fn put_line(buffer: &mut [u8], at: usize, words: &[u8], numbers: &[u64]) -> 
     put_byte(buffer, end, b'\n')
 }
 
-// Puts the line of a refused file: R, the number of refusal, the place (rule 11.2).
+// Puts the line of a refused file: R, the number of refusal, the place, the offset (rule 11.2).
 pub fn put_refusal(buffer: &mut [u8], at: usize, refusal: Refusal) -> usize
     ensures { λ r. ⌜ Put (refusalLine refusal) at (now (buffer .entry)) r (now (buffer .exit)) ⌝ }
 {
     let reason = refusal.reason;
-    let numbers = [reason.number() as u64, refusal.place];
+    let numbers = [reason.number() as u64, refusal.place, refusal.offset];
     put_line(buffer, at, b"R", &numbers)
 }
 

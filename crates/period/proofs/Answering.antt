@@ -8,13 +8,14 @@ use Rattle.fields.specs.declared.answer.Answer.{Answer}
 use Rattle.fields.specs.declared.answer.Answer.the-variants.{Accepted, Refused}
 use Rattle.fields.specs.declared.answer.Refusal.{Refusal}
 use Rattle.fields.specs.Answers.{Verdict, accepts, refuses, refusing, said}
-use Rattle.fields.specs.Reasons.{numberOf}
 use Rattle.fields.specs.Readers.{Read, read, refused}
-use Rattle.fields.specs.Tests.{Test, testedBy}
+use Rattle.fields.specs.Tests.{Test, refusalBy, testedBy}
 use Rattle.fields.proofs.Answers.{refuses-not-accepts}
 use Rattle.fields.proofs.Testing.{none-answers, listed-length}
 use Rattle.records.specs.Headers.{announced}
 use Rattle.records.specs.Periods.{Period, periodFile}
+use Rattle.records.specs.Places.{lineStart}
+use Rattle.records.specs.Within.{countsOf}
 use Rattle.accounts.specs.Order.{Ruling, refusal, accepted, tested, lineTests, segmentTests, plantNumbers, segmentNumbers, tableTests}
 use Rattle.accounts.specs.Quantified.{accountsOf, rows, judged, afterReading, quantified}
 use Rattle.accounts.proofs.Testing.{none-fails}
@@ -30,10 +31,10 @@ use Rattle.period.proofs.RowsWritten.{rows-length}
 use Rattle.period.proofs.RowsOfAccounts.{plantRowOf, segmentRowOf, plant-rows-are, segment-rows-are, plant-rows-by, segment-rows-by}
 
 -- ---- a settlement, with tables of given lengths
-module _ (plantTable segmentTable : ℕ) where
+module _ (plantTable segmentTable bytes : ℕ) where
   -- the tests of the tables, for the plants and the segments that it has
   abbrev tableTestsOf : Settlement → List Test
-  tableTestsOf settled = tableTests (announced (length (settled .plants)) (length (settled .segments)) 0) plantTable segmentTable
+  tableTestsOf settled = tableTests bytes (announced (length (settled .plants)) (length (settled .segments)) 0) plantTable segmentTable
 
   -- its rows
   abbrev rowsOf : Settlement → Ruling
@@ -41,7 +42,7 @@ module _ (plantTable segmentTable : ℕ) where
 
   -- the ruling: a refusal stands, else the tables decide
   abbrev ruledBy : Verdict → Settlement → Ruling
-  ruledBy (refuses number place) settled = refusal number place
+  ruledBy (refuses notice) settled = refusal notice
   ruledBy accepts settled = tested (tableTestsOf settled) (rowsOf settled)
 
   abbrev pub ruled : Settlement → Ruling
@@ -57,30 +58,32 @@ module _ (plantTable segmentTable : ℕ) where
     where
       by-test :
           (t : Bool) → tested (tests ++ rest) ruling ≡ ruled (settledBy tests settled) →
-          cond t (refusal (numberOf (test .reason)) (test .place)) (tested (tests ++ rest) ruling)
-          ≡ ruled (cond t (nothingSettled (numberOf (test .reason)) (test .place)) (settledBy tests settled))
+          cond t (refusal (refusalBy test)) (tested (tests ++ rest) ruling)
+          ≡ ruled (cond t (nothingSettled (refusalBy test)) (settledBy tests settled))
       by-test true e = refl
       by-test false e = e
 
   -- the ruling on a period that was read
-  judged-is : (period : Period) → judged period (accountsOf period) plantTable segmentTable ≡ ruled (settledPeriod period)
+  judged-is :
+      (file : List ℕ) → length file ≡ bytes → (period : Period) → judged file period (accountsOf period) plantTable segmentTable ≡ ruled (settledPeriod file period)
   unfolding judged settledPeriod rows
-  judged-is period =
+  judged-is file long period =
       let counted : length (plantAccounts period) ≡ length (period .plants) = listed-length (plantAccountAt period) 0 (length (period .plants)) in
       let counted' : length (segmentAccounts period) ≡ length (period .segments) = length-map (accountsOf period) segmentAccount ∙ accounts-length period in
-      let tests = lineTests (period .lines) 0 (period .lines) in
-      ap (λ (all : List Test). tested all (rows period (accountsOf period))) (sym (append-assoc tests (segmentTests (accountsOf period)) _))
-      ∙ tested-before (tests ++ segmentTests (accountsOf period)) (settledOf period) _ _
-      (rw (counted, counted', plant-rows-are period, segment-rows-are (accountsOf period)) refl)
+      let tests = lineTests (lineStart file (countsOf period)) (period .lines) 0 (period .lines) in
+      let of-segments = segmentTests (length file) (accountsOf period) in
+      ap (λ (all : List Test). tested all (rows period (accountsOf period))) (sym (append-assoc tests of-segments _))
+      ∙ tested-before (tests ++ of-segments) (settledOf period) _ _
+      (rw (long, counted, counted', plant-rows-are period, segment-rows-are (accountsOf period)) refl)
 
   -- and on a file
-  pub ruling-is : (file : List ℕ) → quantified file plantTable segmentTable ≡ ruled (settlement file)
+  pub ruling-is : (file : List ℕ) → length file ≡ bytes → quantified file plantTable segmentTable ≡ ruled (settlement file)
   unfolding quantified settlement
-  ruling-is file = by-outcome (periodFile file)
+  ruling-is file long = by-outcome (periodFile file)
     where
-      by-outcome : (outcome : Read Period) → afterReading outcome plantTable segmentTable ≡ ruled (settledAfter outcome)
-      by-outcome (refused number place) = refl
-      by-outcome (read period place rest) = judged-is period
+      by-outcome : (outcome : Read Period) → afterReading file outcome plantTable segmentTable ≡ ruled (settledAfter file outcome)
+      by-outcome (refused notice) = refl
+      by-outcome (read period place at) = judged-is file long period
 
   -- what it says to the caller
   told-of-tests : (tests : List Test) (plants segments : List ℕ) → rulingVerdict (tested tests (accepted plants segments)) ≡ testedBy refuses tests accepts
@@ -90,20 +93,20 @@ module _ (plantTable segmentTable : ℕ) where
     where
       by-test :
           (t : Bool) → rulingVerdict (tested tests (accepted plants segments)) ≡ testedBy refuses tests accepts →
-          rulingVerdict (cond t (refusal (numberOf (test .reason)) (test .place)) (tested tests (accepted plants segments)))
-          ≡ cond t (refuses (numberOf (test .reason)) (test .place)) (testedBy refuses tests accepts)
+          rulingVerdict (cond t (refusal (refusalBy test)) (tested tests (accepted plants segments)))
+          ≡ cond t (refuses (refusalBy test)) (testedBy refuses tests accepts)
       by-test true e = refl
       by-test false e = e
 
   pub ruled-verdict :
       (settled : Settlement) →
-      rulingVerdict (ruled settled) ≡ withTables (length (settled .plants)) (length (settled .segments)) plantTable segmentTable (settled .verdict)
+      rulingVerdict (ruled settled) ≡ withTables (length (settled .plants)) (length (settled .segments)) plantTable segmentTable bytes (settled .verdict)
   ruled-verdict settled = by-verdict (settled .verdict)
     where
       by-verdict :
           (verdict : Verdict) →
-          rulingVerdict (ruledBy verdict settled) ≡ withTables (length (settled .plants)) (length (settled .segments)) plantTable segmentTable verdict
-      by-verdict (refuses number place) = refl
+          rulingVerdict (ruledBy verdict settled) ≡ withTables (length (settled .plants)) (length (settled .segments)) plantTable segmentTable bytes verdict
+      by-verdict (refuses notice) = refl
       by-verdict accepts = told-of-tests (tableTestsOf settled) _ _
 
   -- if that is acceptance, the ruling has the rows
@@ -111,7 +114,7 @@ module _ (plantTable segmentTable : ℕ) where
   accepted-rows settled = by-verdict (settled .verdict)
     where
       by-verdict : (verdict : Verdict) → rulingVerdict (ruledBy verdict settled) ≡ accepts → ruledBy verdict settled ≡ rowsOf settled
-      by-verdict (refuses number place) e = absurd (refuses-not-accepts e)
+      by-verdict (refuses notice) e = absurd (refuses-not-accepts e)
       by-verdict accepts e =
           accepted-told (tested (tableTestsOf settled) (rowsOf settled)) (tested (tableTestsOf settled) (rowsOf settled) ≡ rowsOf settled)
           (λ plants segments is. none-answers refusal (rowsOf settled) (none-fails (tableTestsOf settled) (rowsOf settled) plants segments is)) e
@@ -125,39 +128,39 @@ module _ (plantTable segmentTable : ℕ) where
       by-verdict :
           (verdict : Verdict) → rulingVerdict (ruledBy verdict settled) ≡ accepts →
           (plantNumbers * length (settled .plants) ≤ plantTable) × (segmentNumbers * length (settled .segments) ≤ segmentTable)
-      by-verdict (refuses number place) e = absurd (refuses-not-accepts e)
+      by-verdict (refuses notice) e = absurd (refuses-not-accepts e)
       by-verdict accepts e =
           accepted-told (tested (tableTestsOf settled) (rowsOf settled)) _
           (λ plants segments is.
-          table-room (announced (length (settled .plants)) (length (settled .segments)) 0) plantTable segmentTable
+          table-room bytes (announced (length (settled .plants)) (length (settled .segments)) 0) plantTable segmentTable
           (none-fails (tableTestsOf settled) (rowsOf settled) plants segments is)) e
 
 -- ---- a file that was settled, and what was answered with tables of given lengths
 module _
     (file : List ℕ) (r : Settled) (settles : SettlePromise file r) (plantTable segmentTable : ℕ) (answer : Answer)
-    (told : said answer ≡ withTables (r .«plant_count») (r .«segment_count») plantTable segmentTable (said (r .answer))) where
+    (told : said answer ≡ withTables (r .«plant_count») (r .«segment_count») plantTable segmentTable (length file) (said (r .answer))) where
   -- that is the ruling
   pub answer-is : said answer ≡ rulingVerdict (quantified file plantTable segmentTable)
   answer-is =
       told
       ∙ rw (settles .plant-count, settles .segment-count, settles .verdict) refl
-      ∙ sym (ap rulingVerdict (ruling-is plantTable segmentTable file) ∙ ruled-verdict plantTable segmentTable (settlement file))
+      ∙ sym (ap rulingVerdict (ruling-is plantTable segmentTable (length file) file refl) ∙ ruled-verdict plantTable segmentTable (length file) (settlement file))
 
   -- accepted
   module _ (is : answer ≡ Accepted) where
-    accepting : rulingVerdict (ruled plantTable segmentTable (settlement file)) ≡ accepts
-    accepting = sym (sym (ap said is) ∙ answer-is ∙ ap rulingVerdict (ruling-is plantTable segmentTable file))
+    accepting : rulingVerdict (ruled plantTable segmentTable (length file) (settlement file)) ≡ accepts
+    accepting = sym (sym (ap said is) ∙ answer-is ∙ ap rulingVerdict (ruling-is plantTable segmentTable (length file) file refl))
 
     -- the ruling has their rows
     pub rows-are : quantified file plantTable segmentTable ≡ accepted (firstRows (plantRowAt (r .plants)) (r .«plant_count»)) (firstRows (segmentRowAt (r .segments)) (r .«segment_count»))
     rows-are =
-        ruling-is plantTable segmentTable file
-        ∙ accepted-rows plantTable segmentTable (settlement file) accepting
+        ruling-is plantTable segmentTable (length file) file refl
+        ∙ accepted-rows plantTable segmentTable (length file) (settlement file) accepting
         ∙ sym (rw (settles .plant-count, settles .segment-count) (ap₂ accepted (plant-rows-by (r .plants) (settlement file .plants) (settles .plants)) (segment-rows-by (r .segments) (settlement file .segments) (settles .segments))))
 
     -- for which there is room
     pub room-is : (plantNumbers * r .«plant_count» ≤ plantTable) × (segmentNumbers * r .«segment_count» ≤ segmentTable)
-    room-is = rw (settles .plant-count, settles .segment-count) (accepted-room plantTable segmentTable (settlement file) accepting)
+    room-is = rw (settles .plant-count, settles .segment-count) (accepted-room plantTable segmentTable (length file) (settlement file) accepting)
 
 -- ---- how many numbers the rows have, by their count
 pub plants-long : (columns : PlantAccounts) (count : ℕ) → length (firstRows (plantRowAt columns) count) ≡ plantNumbers * count
@@ -169,7 +172,7 @@ segments-long columns = rows-length (segmentRowAt columns) segmentNumbers (λ i.
 -- ---- the call on tables of numbers
 module _
     (file : List ℕ) (r : Settled) (settles : SettlePromise file r) (tables : Lent) (answer : Answer)
-    (told : said answer ≡ withTables (r .«plant_count») (r .«segment_count») (length (tables .plants)) (length (tables .segments)) (said (r .answer))) where
+    (told : said answer ≡ withTables (r .«plant_count») (r .«segment_count») (length (tables .plants)) (length (tables .segments)) (length file) (said (r .answer))) where
   verdict-is : said answer ≡ rulingVerdict (rulingOn file tables)
   verdict-is = answer-is file r settles (length (tables .plants)) (length (tables .segments)) answer told
 
@@ -178,7 +181,7 @@ module _
   call-refuses why is = by-ruling (rulingOn file tables) refl (sym (ap said is) ∙ verdict-is)
     where
       by-ruling : (ruling : Ruling) → rulingOn file tables ≡ ruling → refusing why ≡ rulingVerdict ruling → QuantifyPromise file tables (nothingWritten why) tables
-      by-ruling (refusal number place) e verdict = record {
+      by-ruling (refusal notice) e verdict = record {
         hands-back = subst (HandsBack (nothingWritten why)) (sym e) (record { verdict = verdict; plants = refl; segments = refl });
         leaves = sym (ap (λ (ruling : Ruling). lentAfter ruling tables) e);
       }

@@ -51,7 +51,7 @@ rows-left {file} {plants} {segments} left =
     by-ruling :
         (ruling : Ruling) → rulingOn file (left .before) ≡ ruling → rulingVerdict ruling ≡ accepts →
         lent plants segments ≡ lentAfter ruling (left .before) → Rows file plants segments
-    by-ruling (refusal number place) is verdict leaves = absurd (refuses-not-accepts verdict)
+    by-ruling (refusal notice) is verdict leaves = absurd (refuses-not-accepts verdict)
     by-ruling (accepted plant-numbers segment-numbers) is verdict leaves =
         let file-accepted : Accepted file plant-numbers segment-numbers =
         record { plantTable = length (left .before .plants); segmentTable = length (left .before .segments); answer = is } in

@@ -25,10 +25,10 @@ one-outcome file tables r s tables₁ tables₂ p q = (
 
 -- `answer_with_tables`, `plant_row` and `segment_row`: their promises give the result itself
 pub one-answer :
-    (settled : Answer) (plants segments plantTable segmentTable : ℕ) (r s : Answer) →
-    AnswerWithTablesPromise settled plants segments plantTable segmentTable r →
-    AnswerWithTablesPromise settled plants segments plantTable segmentTable s → r ≡ s
-one-answer settled plants segments plantTable segmentTable r s p q = said-once r s (p ∙ sym q)
+    (settled : Answer) (plants segments plantTable segmentTable bytes : ℕ) (r s : Answer) →
+    AnswerWithTablesPromise settled plants segments plantTable segmentTable bytes r →
+    AnswerWithTablesPromise settled plants segments plantTable segmentTable bytes s → r ≡ s
+one-answer settled plants segments plantTable segmentTable bytes r s p q = said-once r s (p ∙ sym q)
 
 pub one-plant-row :
     (exported fraction stored associated : ℕ) (r s : List ℕ) → PlantRowPromise exported fraction stored associated r →

@@ -1,11 +1,11 @@
 -- The call refuses a file exactly for the first reason that holds, and then leaves both tables as they were; it accepts exactly
--- if none holds (rules 13.2 and 13.3). `specs/AllTests.antt` of `accounts` lists the reasons as tests, each at its place, in order.
+-- if none holds (rules 13.2 and 13.3). `specs/AllTests.antt` of `accounts` lists the reasons as tests, each at its place and offset, in order.
 use Prim.Native.Nat.{ℕ}
 use mathlib.Core.Path.{_≡_, refl, sym, ap, _∙_}
 use mathlib.Core.List.{List}
 use mathlib.Core.Logic.{_↔_}
 use lib.ListN.{length}
-use Rattle.fields.specs.Answers.{accepts, refuses, said}
+use Rattle.fields.specs.Answers.{Notice, accepts, refuses, said}
 use Rattle.fields.specs.Tests.{Test, FirstFails, NoneFails}
 use Rattle.fields.proofs.Answers.{refuses-not-accepts}
 use Rattle.accounts.specs.Order.{Ruling, refusal, accepted}
@@ -17,15 +17,15 @@ use Rattle.period.specs.Written.{Lent, rulingOn, rulingVerdict, lentAfte
 
 -- ---- a verdict tells the ruling
 -- a refusal
-refusal-told : (ruling : Ruling) (number place : ℕ) → rulingVerdict ruling ≡ refuses number place → ruling ≡ refusal number place
-refusal-told (refusal number' place') number place e = cc
-refusal-told (accepted plants segments) number place e = absurd (refuses-not-accepts (sym e))
+refusal-told : (ruling : Ruling) (notice : Notice) → rulingVerdict ruling ≡ refuses notice → ruling ≡ refusal notice
+refusal-told (refusal other) notice e = cc
+refusal-told (accepted plants segments) notice e = absurd (refuses-not-accepts (sym e))
 
 -- an acceptance, with some rows
 pub accepted-told :
     (ruling : Ruling) (Claim : Type 0) → ((plants segments : List ℕ) → ruling ≡ accepted plants segments → Claim) →
     rulingVerdict ruling ≡ accepts → Claim
-accepted-told (refusal number place) Claim then e = absurd (refuses-not-accepts e)
+accepted-told (refusal notice) Claim then e = absurd (refuses-not-accepts e)
 accepted-told (accepted plants segments) Claim then e = then plants segments refl
 
 -- ---- the call, lent two tables
@@ -37,11 +37,11 @@ module _ {file : List ℕ} {tables : Lent} {r : Quantified} {tables' : Lent} (pr
   abbrev tests : List Test
   tests = allTests file (length (tables .plants)) (length (tables .segments))
 
-  -- refused with a number and a place: that is the first test that fails
-  pub refuses-exactly : (number place : ℕ) → (said (r .answer) ≡ refuses number place) ↔ FirstFails tests number place
-  refuses-exactly number place =
-      let exactly = refused-exactly file (length (tables .plants)) (length (tables .segments)) number place in (
-        λ told. exactly .0 (refusal-told ruling number place (sym (promised .hands-back .verdict) ∙ told)),
+  -- refused with a notice: that is the first test that fails
+  pub refuses-exactly : (notice : Notice) → (said (r .answer) ≡ refuses notice) ↔ FirstFails tests notice
+  refuses-exactly notice =
+      let exactly = refused-exactly file (length (tables .plants)) (length (tables .segments)) notice in (
+        λ told. exactly .0 (refusal-told ruling notice (sym (promised .hands-back .verdict) ∙ told)),
         λ first. promised .hands-back .verdict ∙ ap rulingVerdict (exactly .1 first),
       )
 
@@ -56,7 +56,7 @@ module _ {file : List ℕ} {tables : Lent} {r : Quantified} {tables' : Lent} (pr
       )
 
   -- a refusal leaves both tables alone
-  pub untouched : (number place : ℕ) → said (r .answer) ≡ refuses number place → tables' ≡ tables
-  untouched number place told =
+  pub untouched : (notice : Notice) → said (r .answer) ≡ refuses notice → tables' ≡ tables
+  untouched notice told =
       promised .leaves
-      ∙ ap (λ (a : Ruling). lentAfter a tables) (refusal-told ruling number place (sym (promised .hands-back .verdict) ∙ told))
+      ∙ ap (λ (a : Ruling). lentAfter a tables) (refusal-told ruling notice (sym (promised .hands-back .verdict) ∙ told))

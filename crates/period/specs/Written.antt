@@ -29,20 +29,22 @@ segmentRowAt accounts s =
 abbrev pub firstRows : (ℕ → List ℕ) → ℕ → List ℕ
 firstRows row count = flatMap row (listed (λ (i : ℕ). i) 0 count)
 
--- The verdict on a settled file, with these counts of plants and segments and tables of these lengths: 14 and 15 come last (rule 8.7).
-abbrev pub withTables : (plants segments plantTable segmentTable : ℕ) → Verdict → Verdict
-withTables plants segments plantTable segmentTable (refuses number place) = refuses number place
-withTables plants segments plantTable segmentTable accepts = testedBy refuses (tableTests (announced plants segments 0) plantTable segmentTable) accepts
+-- The verdict on a settled file, with these counts of plants and segments, tables of these lengths and this many bytes: 14 and 15 come last (rules 8.7
+-- and 8.9).
+abbrev pub withTables : (plants segments plantTable segmentTable bytes : ℕ) → Verdict → Verdict
+withTables plants segments plantTable segmentTable bytes (refuses notice) = refuses notice
+withTables plants segments plantTable segmentTable bytes accepts = testedBy refuses (tableTests bytes (announced plants segments 0) plantTable segmentTable) accepts
 
--- What `plant_row`, `segment_row` and `answer_with_tables` promise (rules 7.1, 7.2 and 8.7).
+-- What `plant_row`, `segment_row` and `answer_with_tables` promise (rules 7.1, 7.2, 8.7 and 8.9).
 abbrev pub PlantRowPromise : (exported fraction stored associated : ℕ) → List ℕ → Type 0
 PlantRowPromise exported fraction stored associated r = r ≡ plantRow exported fraction stored associated
 
 abbrev pub SegmentRowPromise : (inflow outflow emission plants : ℕ) → List ℕ → Type 0
 SegmentRowPromise inflow outflow emission plants r = r ≡ segmentRow inflow outflow emission plants
 
-abbrev pub AnswerWithTablesPromise : (settled : Answer) (plants segments plantTable segmentTable : ℕ) → Answer → Type 0
-AnswerWithTablesPromise settled plants segments plantTable segmentTable r = said r ≡ withTables plants segments plantTable segmentTable (said settled)
+abbrev pub AnswerWithTablesPromise : (settled : Answer) (plants segments plantTable segmentTable bytes : ℕ) → Answer → Type 0
+AnswerWithTablesPromise settled plants segments plantTable segmentTable bytes r =
+    said r ≡ withTables plants segments plantTable segmentTable bytes (said settled)
 
 -- ---- the call
 -- The two tables that a caller lends (rule 10.1).
@@ -57,18 +59,18 @@ lent plants segments = record { plants = plants; segments = segments }
 abbrev pub rulingOn : List ℕ → Lent → Ruling
 rulingOn file tables = quantified file (length (tables .plants)) (length (tables .segments))
 
--- What a ruling says to the caller: that the file is accepted, or the number and place of its refusal (rule 8.1).
+-- What a ruling says to the caller: that the file is accepted, or the notice of its refusal (rule 8.1).
 abbrev pub rulingVerdict : Ruling → Verdict
-rulingVerdict (refusal number place) = refuses number place
+rulingVerdict (refusal notice) = refuses notice
 rulingVerdict (accepted plants segments) = accepts
 
 -- The numbers that a ruling has for each table: none if it refuses (rules 10.2 and 10.3).
 abbrev pub plantEntries : Ruling → List ℕ
-plantEntries (refusal number place) = []
+plantEntries (refusal notice) = []
 plantEntries (accepted plants segments) = plants
 
 abbrev pub segmentEntries : Ruling → List ℕ
-segmentEntries (refusal number place) = []
+segmentEntries (refusal notice) = []
 segmentEntries (accepted plants segments) = segments
 
 -- Numbers are written from the start of a table, and what stands behind them stays (rule 10.2).

@@ -32,6 +32,7 @@ pub fn quantify(file: &[u8], plant_table: &mut [u64], segment_table: &mut [u64])
         segments,
         plant_table.len(),
         segment_table.len(),
+        file.len() as u64,
     );
     if let Answer::Refused(refusal) = answer {
         return refused(refusal);

@@ -23,25 +23,25 @@ header-once : (a b : ReadHeader) → headerFound a ≡ headerFound b → a ≡ b
 header-once (ReadHeader.Whole one next) (ReadHeader.Whole other next') e = ap₂ ReadHeader.Whole (cc) (cc)
 header-once (ReadHeader.Whole one next) (ReadHeader.Refused b) e = absurd (true≢false (cc))
 header-once (ReadHeader.Refused a) (ReadHeader.Whole other next') e = absurd (true≢false (cc))
-header-once (ReadHeader.Refused a) (ReadHeader.Refused b) e = ap ReadHeader.Refused (refusal-once a b (cc) (cc))
+header-once (ReadHeader.Refused a) (ReadHeader.Refused b) e = ap ReadHeader.Refused (refusal-once a b (cc))
 
 plant-once : (a b : ReadPlant) → plantFound a ≡ plantFound b → a ≡ b
 plant-once (ReadPlant.Whole one next) (ReadPlant.Whole other next') e = ap₂ ReadPlant.Whole (cc) (cc)
 plant-once (ReadPlant.Whole one next) (ReadPlant.Refused b) e = absurd (true≢false (cc))
 plant-once (ReadPlant.Refused a) (ReadPlant.Whole other next') e = absurd (true≢false (cc))
-plant-once (ReadPlant.Refused a) (ReadPlant.Refused b) e = ap ReadPlant.Refused (refusal-once a b (cc) (cc))
+plant-once (ReadPlant.Refused a) (ReadPlant.Refused b) e = ap ReadPlant.Refused (refusal-once a b (cc))
 
 segment-once : (a b : ReadSegment) → segmentFound a ≡ segmentFound b → a ≡ b
 segment-once (ReadSegment.Whole one next) (ReadSegment.Whole other next') e = ap₂ ReadSegment.Whole (cc) (cc)
 segment-once (ReadSegment.Whole one next) (ReadSegment.Refused b) e = absurd (true≢false (cc))
 segment-once (ReadSegment.Refused a) (ReadSegment.Whole other next') e = absurd (true≢false (cc))
-segment-once (ReadSegment.Refused a) (ReadSegment.Refused b) e = ap ReadSegment.Refused (refusal-once a b (cc) (cc))
+segment-once (ReadSegment.Refused a) (ReadSegment.Refused b) e = ap ReadSegment.Refused (refusal-once a b (cc))
 
 line-once : (a b : ReadLine) → lineFound a ≡ lineFound b → a ≡ b
 line-once (ReadLine.Whole one next) (ReadLine.Whole other next') e = ap₂ ReadLine.Whole (cc) (cc)
 line-once (ReadLine.Whole one next) (ReadLine.Refused b) e = absurd (true≢false (cc))
 line-once (ReadLine.Refused a) (ReadLine.Whole other next') e = absurd (true≢false (cc))
-line-once (ReadLine.Refused a) (ReadLine.Refused b) e = ap ReadLine.Refused (refusal-once a b (cc) (cc))
+line-once (ReadLine.Refused a) (ReadLine.Refused b) e = ap ReadLine.Refused (refusal-once a b (cc))
 
 -- `read_header`: two answers that meet its promise, of one file, are the same
 pub one-header-read : (file : List ℕ) (r s : ReadHeader) → ReadHeaderPromise file r → ReadHeaderPromise file s → r ≡ s

@@ -11,6 +11,8 @@ pub mod Parts
 pub mod PeriodAlong
 pub mod Within
 pub mod Longest
+pub mod Starts
+pub mod ExtraBytes
 pub mod NumbersConsumed
 -- No two outcomes meet a promise.
 pub mod Outcome

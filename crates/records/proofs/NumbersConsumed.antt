@@ -4,7 +4,6 @@ use mathlib.Core.Path.{_≡_, refl, sym, ap, _∙_}
 use mathlib.Core.Bool.{true≢false}
 use mathlib.Core.List.{List, [], _∷_, _++_, append-nil}
 use borrow.Author.Tests.{eqb-true}
-use Rattle.fields.specs.Run.{Run, run}
 use Rattle.fields.specs.Readers.{each, Read, read, refused, reads, consumes}
 use Rattle.fields.specs.Lists.{inTurn}
 use Rattle.fields.proofs.FieldByField.{goes-over}
@@ -59,24 +58,24 @@ period-takes =
 
 -- so if reading gives a period, the numbers that it took are the period's
 pub numbers-consumed :
-    {what : Period} {place : ℕ} {rest : Run} (file : List ℕ) → reads period 0 (run file) ≡ read what place rest → consumed file ≡ periodNumbers what
+    {what : Period} {place at : ℕ} (file : List ℕ) → reads period file 0 0 ≡ read what place at → consumed file ≡ periodNumbers what
 unfolding consumed
 numbers-consumed file e =
-    let all : consumed file ≡ consumes period (run file) = refl in
+    let all : consumed file ≡ consumes period file 0 = refl in
     all ∙ consumed-has _ period-takes (rw e at (goes-over file period 0 0))
 
 -- and the header of a file that was read tells how many records its period has
 pub header-told :
-    {what : Period} {place : ℕ} {rest : Run} (file : List ℕ) → reads period 0 (run file) ≡ read what place rest → headerOf file ≡ Tells (countsOf what)
+    {what : Period} {place at : ℕ} (file : List ℕ) → reads period file 0 0 ≡ read what place at → headerOf file ≡ Tells (countsOf what)
 unfolding headerOf period
-header-told {what} file whole = by-header (reads header 0 (run file)) refl (comes-to (header-along file))
+header-told {what} file whole = by-header (reads header file 0 0) refl (comes-to (header-along file))
   where
     by-header :
-        (outcome : Read Counts) → reads header 0 (run file) ≡ outcome → Came file (Placed HeaderField) HeaderRead outcome →
+        (outcome : Read Counts) → reads header file 0 0 ≡ outcome → Came file (Placed HeaderField) HeaderRead outcome →
         telling outcome ≡ Tells (countsOf what)
-    by-header (read h end rest) e (came {at} its) =
-        let on = sym (after-read header records 0 (run file) h end rest e) ∙ whole in
+    by-header (read h end at) e (came its) =
+        let on = sym (after-read header records file 0 0 h end at e) ∙ whole in
         let are = consumed-has (Announced h) (records-take h) (rw on at (goes-over file (records h) end at)) in
         ap Tells (sym (are .counted))
-    by-header (refused refusal place) e its =
-        absurd (true≢false (cc (after-refused header records 0 (run file) refusal place e, whole)))
+    by-header (refused notice) e its =
+        absurd (true≢false (cc (after-refused header records file 0 0 notice e, whole)))

@@ -7,8 +7,7 @@ use Rattle.fields.specs.declared.answer.Answer.{Answer}
 use Rattle.fields.specs.declared.answer.Answer.the-variants.{Accepted, Refused}
 use Rattle.fields.specs.declared.answer.Refusal.{Refusal}
 use Rattle.fields.specs.declared.spot.Spot.{Spot}
-use Rattle.fields.specs.Answers.{refusing, said}
-use Rattle.fields.specs.Run.{over}
+use Rattle.fields.specs.Answers.{Notice, refusing, said}
 use Rattle.fields.specs.Readers.{Reader, return, _>>=_, Read, read, refused}
 use Rattle.fields.specs.Files.{ended, readVerdict}
 use Rattle.fields.specs.Spots.{firstSpot, endAt}
@@ -42,14 +41,14 @@ module _ (file : List ℕ) (long : length file < 2 ^ 64) where
   abbrev from : Reader Period → Spot → Type 0
   from reader at = readsFrom period file firstSpot ≡ readsFrom reader file at
 
-  by-parts : (outcome : Reach Period) → readsFrom period file firstSpot ≡ outcome → periodFile file ≡ ended (asRead file outcome)
+  by-parts : (outcome : Reach Period) → readsFrom period file firstSpot ≡ outcome → periodFile file ≡ ended file (asRead outcome)
   unfolding periodFile
-  by-parts outcome e = file-reads file long period ∙ ap (λ (came : Reach Period). ended (asRead file came)) e
+  by-parts outcome e = file-reads file long period ∙ ap (λ (came : Reach Period). ended file (asRead came)) e
 
   -- the header is refused, and so is the file
-  pub header-stopped : (number place : ℕ) → readsFrom header file firstSpot ≡ stopped number place → periodFile file ≡ refused number place
+  pub header-stopped : (notice : Notice) → readsFrom header file firstSpot ≡ stopped notice → periodFile file ≡ refused notice
   unfolding period
-  header-stopped number place e = by-parts (stopped number place) (after-stopped header records file firstSpot number place e)
+  header-stopped notice e = by-parts (stopped notice) (after-stopped header records file firstSpot notice e)
 
   -- the header is read
   module _ (counts : Counts) (first : Spot) (counts-read : readsFrom header file firstSpot ≡ whole counts first) where
@@ -58,10 +57,10 @@ module _ (file : List ℕ) (long : length file < 2 ^ 64) where
     past-header = after-whole header records file firstSpot counts first counts-read
 
     -- a plant is refused
-    pub plants-stopped : (number place : ℕ) → readsFrom (plantsOf counts) file first ≡ stopped number place → periodFile file ≡ refused number place
+    pub plants-stopped : (notice : Notice) → readsFrom (plantsOf counts) file first ≡ stopped notice → periodFile file ≡ refused notice
     unfolding records
-    plants-stopped number place e =
-        by-parts (stopped number place) (past-header ∙ after-stopped (plantsOf counts) (fromPlants counts) file first number place e)
+    plants-stopped notice e =
+        by-parts (stopped notice) (past-header ∙ after-stopped (plantsOf counts) (fromPlants counts) file first notice e)
 
     -- the plants are read
     module _ (plants : List Plant) (second : Spot) (plants-read : readsFrom (plantsOf counts) file first ≡ whole plants second) where
@@ -70,9 +69,9 @@ module _ (file : List ℕ) (long : length file < 2 ^ 64) where
       past-plants = past-header ∙ after-whole (plantsOf counts) (fromPlants counts) file first plants second plants-read
 
       -- a segment is refused
-      pub segments-stopped : (number place : ℕ) → readsFrom (segmentsOf counts) file second ≡ stopped number place → periodFile file ≡ refused number place
-      segments-stopped number place e =
-          by-parts (stopped number place) (past-plants ∙ after-stopped (segmentsOf counts) (fromSegments counts plants) file second number place e)
+      pub segments-stopped : (notice : Notice) → readsFrom (segmentsOf counts) file second ≡ stopped notice → periodFile file ≡ refused notice
+      segments-stopped notice e =
+          by-parts (stopped notice) (past-plants ∙ after-stopped (segmentsOf counts) (fromSegments counts plants) file second notice e)
 
       -- the segments are read
       module _ (segments : List Segment) (third : Spot) (segments-read : readsFrom (segmentsOf counts) file second ≡ whole segments third) where
@@ -80,13 +79,13 @@ module _ (file : List ℕ) (long : length file < 2 ^ 64) where
         past-segments = past-plants ∙ after-whole (segmentsOf counts) (fromSegments counts plants) file second segments third segments-read
 
         -- a line is refused
-        pub lines-stopped : (number place : ℕ) → readsFrom (linesOf counts) file third ≡ stopped number place → periodFile file ≡ refused number place
-        lines-stopped number place e =
-            by-parts (stopped number place) (past-segments ∙ after-stopped (linesOf counts) (fromLines counts plants segments) file third number place e)
+        pub lines-stopped : (notice : Notice) → readsFrom (linesOf counts) file third ≡ stopped notice → periodFile file ≡ refused notice
+        lines-stopped notice e =
+            by-parts (stopped notice) (past-segments ∙ after-stopped (linesOf counts) (fromLines counts plants segments) file third notice e)
 
         -- the lines are read: the end of the file is next
         module _ (lines : List Line) (last : Spot) (lines-read : readsFrom (linesOf counts) file third ≡ whole lines last) where
-          pub lines-whole : periodFile file ≡ ended (readTo file (periodOf plants segments lines) last)
+          pub lines-whole : periodFile file ≡ ended file (readTo (periodOf plants segments lines) last)
           unfolding readsFrom
           lines-whole =
               by-parts (whole (periodOf plants segments lines) last)
@@ -102,5 +101,5 @@ module _ (file : List ℕ) (long : length file < 2 ^ 64) where
             bytes-left refusal e = lines-whole ∙ bytes-after file last answer is (periodOf plants segments lines) refusal e
 
             -- none follow it: the period is read
-            pub all-read : answer ≡ Accepted → periodFile file ≡ read (periodOf plants segments lines) (last .place) over
+            pub all-read : answer ≡ Accepted → periodFile file ≡ readTo (periodOf plants segments lines) last
             all-read e = lines-whole ∙ file-ends file last answer is (periodOf plants segments lines) e

@@ -19,6 +19,7 @@ use Rattle.records.specs.Classes.{segmentOwner, classes}
 use Rattle.records.specs.Lines.{mostLines, lineFields, lineBytes, largestFactor}
 use Rattle.records.specs.Headers.{edition, header, headerFields, headerBytes}
 use Rattle.records.specs.Periods.{Period, plant, segment, line, records, period, mostBytes}
+use Rattle.records.specs.Places.{plantPlace, segmentPlace, numberCount}
 use Rattle.records.specs.Within.{CountsWithin, countsOf, PlantWithin}
 use Rattle.records.proofs.FieldRanges.{next-at-most, owner-at-most}
 use Rattle.records.proofs.RecordsWithin.{SegmentRead, LineRead, counts-fit, plant-fit, segment-fit, line-fit}
@@ -27,13 +28,13 @@ use Rattle.records.proofs.Classes.{code-at-most}
 -- ---- the places and the reasons of fields
 -- where the segments start, where the lines do, and where they end, by what the header announces
 abbrev pub segmentsFrom : Counts → ℕ
-segmentsFrom h = headerFields + plantFields * h .plants
+segmentsFrom h = plantPlace (h .plants)
 
 abbrev pub linesFrom : Counts → ℕ
-linesFrom h = segmentsFrom h + segmentFields * h .segments
+linesFrom h = segmentPlace h (h .segments)
 
 abbrev pub linesEnd : Counts → ℕ
-linesEnd h = linesFrom h + lineFields * h .lines
+linesEnd h = numberCount h
 
 -- a field of the header: its place and its reason
 pub data HeaderField : (place : ℕ) → Reason → Type 0 where

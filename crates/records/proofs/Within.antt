@@ -7,10 +7,12 @@ use native.Mathlib.Nat.{le-trans, not-suc-le-zero}
 use native.Mathlib.Decide.{decLe}
 use native.Mathlib.Omega.{arith}
 use lib.ListN.{length, getD}
-use Rattle.fields.specs.Run.{Run}
-use Rattle.fields.specs.Readers.{read}
+use Rattle.fields.specs.declared.reason.Reason.the-variants.{BytesAfter}
+use Rattle.fields.specs.Reasons.{numberOf}
+use Rattle.fields.specs.Answers.{Notice}
+use Rattle.fields.specs.Readers.{read, refused}
 use Rattle.fields.specs.Lists.{Each}
-use Rattle.fields.proofs.Along.{Ended, none-left, comes-to, at-end}
+use Rattle.fields.proofs.Along.{not-allowed, has-fault, Ended, none-left, bytes-left, not-read, comes-to, at-end}
 use Rattle.fields.proofs.Ranges.{at-least, at-most}
 use Rattle.records.specs.declared.counts.Counts.{Counts}
 use Rattle.records.specs.declared.plant.Plant.{Plant}
@@ -84,9 +86,19 @@ held-within h what holds =
     }
 
 -- what a file that was read holds is within its limits
-pub read-within : (file : List ℕ) (period : Period) (place : ℕ) (rest : Run) → periodFile file ≡ read period place rest → Within period
+pub read-within : (file : List ℕ) (period : Period) (place at : ℕ) → periodFile file ≡ read period place at → Within period
 unfolding periodFile
-read-within file held place rest e = within (rw e at (at-end (comes-to (period-along file))))
+read-within file held place at e = within (rw e at (at-end (comes-to (period-along file))))
   where
-    within : {what : Period} {end : ℕ} {left : Run} → Ended file (Placed PeriodField) PeriodRead (read what end left) → Within what
-    within {what} (none-left ((h, holds), last)) = held-within h what holds
+    within : {what : Period} {end to : ℕ} → Ended file (Placed PeriodField) PeriodRead (read what end to) → Within what
+    within {what} (none-left ((h, holds), last) all) = held-within h what holds
+
+-- ---- and what reading refuses has a number up to 9
+pub reading-numbered : (file : List ℕ) (told : Notice) → periodFile file ≡ refused told → told .number ≤ numberOf BytesAfter
+unfolding periodFile
+reading-numbered file told e = numbered (rw e at (at-end (comes-to (period-along file))))
+  where
+    numbered : {other : Notice} → Ended file (Placed PeriodField) PeriodRead (refused other) → other .number ≤ numberOf BytesAfter
+    numbered (bytes-left its) = omega arith
+    numbered (not-read (not-allowed ((from, to), room))) = omega (arith, to)
+    numbered (not-read (has-fault small)) = omega (arith, small)

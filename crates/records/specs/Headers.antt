@@ -3,7 +3,6 @@ use Prim.Native.Nat.{ℕ, _+_}
 use mathlib.Core.List.{List}
 use lib.Dec.{eqb}
 use Rattle.fields.specs.declared.reason.Reason.the-variants.{WrongEdition, WrongCount}
-use Rattle.fields.specs.Run.{run}
 use Rattle.fields.specs.Readers.{Reader, return, field, _>>=_, Read, read, refused, reads}
 use Rattle.records.specs.declared.counts.Counts.{Counts}
 use Rattle.records.specs.declared.header.Header.{Header}
@@ -39,9 +38,9 @@ headerBytes = 1 + 1 + 1 + 2
 
 -- What a header tells of the records behind it: the counts that were read; if it is refused, nothing.
 abbrev pub telling : Read Counts → Header
-telling (read counts place rest) = Tells counts
-telling (refused number place) = TellsNothing
+telling (read counts place at) = Tells counts
+telling (refused notice) = TellsNothing
 
 -- What the header of a file tells, whatever is behind it (rules 2.3 and 11.5).
 unfoldable pub headerOf : List ℕ → Header
-headerOf file = telling (reads header 0 (run file))
+headerOf file = telling (reads header file 0 0)

@@ -5,5 +5,5 @@ use Rattle.records.specs.Periods.{Period}
 
 -- The records that were read; a refused file has none.
 abbrev pub recordsOf : Read Period → Period
-recordsOf (read period place rest) = period
-recordsOf (refused number place) = record { plants = []; segments = []; lines = [] }
+recordsOf (read period place at) = period
+recordsOf (refused notice) = record { plants = []; segments = []; lines = [] }

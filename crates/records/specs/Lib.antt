@@ -8,6 +8,7 @@ pub mod Lines
 -- the file: its header and records, read from the front; the numbers that it has
 pub mod Headers
 pub mod Periods
+pub mod Places
 pub mod Numbers
 pub mod Within
 pub mod Held

@@ -2,7 +2,6 @@
 use Prim.Native.Nat.{ℕ}
 use mathlib.Core.List.{List, [], _∷_, _++_}
 use lib.ListN.{length}
-use Rattle.fields.specs.Run.{run}
 use Rattle.fields.specs.Readers.{consumes}
 use Rattle.fields.specs.Lists.{inTurn}
 use Rattle.records.specs.declared.plant.Plant.{Plant}
@@ -37,4 +36,4 @@ periodNumbers period =
 
 -- The numbers that reading takes from a file.
 unfoldable pub consumed : List ℕ → List ℕ
-consumed file = consumes period (run file)
+consumed file = consumes period file 0

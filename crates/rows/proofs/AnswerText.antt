@@ -18,14 +18,14 @@ use Rattle.rows.specs.Printed.{rulingText}
 -- ---- by the verdict
 -- a refusal is told in its line
 refusal-told : (ruling : Ruling) (why : Refusal) → refusing why ≡ rulingVerdict ruling → rulingText ruling ≡ refusalLine why
-refusal-told (refusal number place) why told = cc
+refusal-told (refusal notice) why told = cc
 refusal-told (accepted plants segments) why told = let z : _≡_ {A = ℕ} 0 1 = cc in absurd (omega arith)
 
 -- an acceptance is told in the rows of both tables
 rows-told :
     (ruling : Ruling) → accepts ≡ rulingVerdict ruling →
     rulingText ruling ≡ tableText (ascii "P") plantNumbers (plantEntries ruling) ++ tableText (ascii "S") segmentNumbers (segmentEntries ruling)
-rows-told (refusal number place) told = let z : _≡_ {A = ℕ} 0 1 = cc in absurd (omega arith)
+rows-told (refusal notice) told = let z : _≡_ {A = ℕ} 0 1 = cc in absurd (omega arith)
 rows-told (accepted plants segments) told = refl
 
 -- numbers that are written over the start of a table are there

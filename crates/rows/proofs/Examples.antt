@@ -2,8 +2,8 @@
 use mathlib.Core.Path.{_≡_, refl}
 use mathlib.Core.List.{[], _∷_, _++_, zipWith, flatMap}
 use Rattle.number.specs.Groups.{gather, value, padded}
-use Rattle.number.specs.Reading.{reading, formed}
-use Rattle.fields.specs.Run.{runOf, run}
+use Rattle.number.specs.Reading.{reading, readAt, formed}
+use Rattle.number.specs.Counting.{startOf}
 use Rattle.fields.specs.Readers.{each, reads}
 use Rattle.fields.specs.Tests.{testedBy}
 use Rattle.fields.specs.Lists.{sum}
@@ -38,12 +38,12 @@ pub examples :
     ++ ascii "S 1 15001 14900 101 268 3\n"
     ++ ascii "S 2 14900 14899 1 0 3\n")
     -- no bytes; a number that is cut; one not in its shortest form; a wrong edition; no plants
-    × (printedRows [] ≡ ascii "R 1 0\n")
-    × (printedRows (0x01 ∷ []) ≡ ascii "R 1 1\n")
-    × (printedRows (0x80 ∷ 0x00 ∷ []) ≡ ascii "R 2 0\n")
-    × (printedRows (0x02 ∷ []) ≡ ascii "R 4 0\n")
-    × (printedRows (0x01 ∷ 0x00 ∷ []) ≡ ascii "R 5 1\n")
-unfolding gather value padded reading formed zipWith flatMap classes classAllowed runOf run each reads header plant segment periods.line records period
+    × (printedRows [] ≡ ascii "R 1 0 0\n")
+    × (printedRows (0x01 ∷ []) ≡ ascii "R 1 1 1\n")
+    × (printedRows (0x80 ∷ 0x00 ∷ []) ≡ ascii "R 2 0 0\n")
+    × (printedRows (0x02 ∷ []) ≡ ascii "R 4 0 0\n")
+    × (printedRows (0x01 ∷ 0x00 ∷ []) ≡ ascii "R 5 1 1\n")
+unfolding gather value padded reading formed zipWith flatMap classes classAllowed readAt startOf each reads header plant segment periods.line records period
     periodFile sum chosen gramsOf emission creditsFrom passed turns arrived setOf account plantRows segmentRows testedBy lineTests segmentTests
     accountsOf rows judged quantified decimalWithin textLine rowsText printedRows
 examples = (refl, refl, refl, refl, refl, refl)

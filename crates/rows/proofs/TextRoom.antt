@@ -23,7 +23,7 @@ unfolding printedRows
 text-room file = by-ruling (rulingOnFile file) refl
   where
     by-ruling : (ruling : Ruling) → rulingOnFile file ≡ ruling → length (rulingText ruling) ≤ mostRowsText
-    by-ruling (refusal number place) e = omega (arith, line-long (ascii "R") (number ∷ place ∷ []))
+    by-ruling (refusal notice) e = omega (arith, line-long (ascii "R") (notice .number ∷ notice .place ∷ notice .offset ∷ []))
     by-ruling (accepted plants segments) e =
         let given : Accepted file plants segments = record { plantTable = plantNumbers * mostPlants; segmentTable = segmentNumbers * mostSegments; answer = e } in
         let room = accepted-room given in

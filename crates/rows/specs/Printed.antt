@@ -11,7 +11,7 @@ use Rattle.output.specs.Lines.{refusalText, tableText, mostInRows}
 -- By the ruling on a file: the rows of its plants and then of its segments, or the line of a refused file.
 abbrev pub rulingText : Ruling → List ℕ
 rulingText (accepted plants segments) = tableText (ascii "P") plantNumbers plants ++ tableText (ascii "S") segmentNumbers segments
-rulingText (refusal number place) = refusalText number place
+rulingText (refusal notice) = refusalText notice
 
 -- The ruling on a file, with room for the rows of every period, so that there is no 14 or 15.
 abbrev pub rulingOnFile : List ℕ → Ruling

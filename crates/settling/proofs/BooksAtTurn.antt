@@ -7,7 +7,7 @@ use lib.ListN.{length, length-map, drop, getD}
 use lib.Seq.{drop-cons, ext-getD}
 use borrow.Author.Tests.{ne-eqb}
 use Rattle.number.specs.Groups.{largest}
-use Rattle.fields.specs.Answers.{refuses}
+use Rattle.fields.specs.Answers.{Notice, refuses}
 use Rattle.fields.specs.Lists.{sum, Each}
 use Rattle.fields.specs.Tests.{Test}
 use Rattle.records.specs.declared.counts.Counts.{Counts}
@@ -43,7 +43,7 @@ pub record Bounded (counts : Counts) (plants : List Plant) (segments : List Segm
 
 -- the segment at an index, when its turn comes
 abbrev pub dueAt : Emissions → ℕ → Segment → Due
-dueAt emissions s segment = record { index = s; segment = segment; emission = getD (emissions .segments) s 0 }
+dueAt emissions s segment = record { index = s; segment = segment; emission = getD (emissions .segments) s 0; bytes = emissions .bytes }
 
 module _ (plants : List Plant) (segments : List Segment) where
   -- where the plants are after s turns, whatever the lines; and where one of them is
@@ -78,7 +78,7 @@ module _ (counts : Counts) (plants : List Plant) (segments : List Segment) where
     -- no test has failed
     pub tests :
         (lines : List Line) → EmissionsOf counts lines emissions → (rest : List Test) (settled : Settlement) →
-        settledBy (segmentTests (left plants segments lines 0) ++ rest) settled ≡ settledBy (segmentTests (left plants segments lines s) ++ rest) settled
+        settledBy (segmentTests (emissions .bytes) (left plants segments lines 0) ++ rest) settled ≡ settledBy (segmentTests (emissions .bytes) (left plants segments lines s) ++ rest) settled
 
 module _ {counts : Counts} {plants : List Plant} {segments : List Segment} (bounded : Bounded counts plants segments) where
   -- where the plants are after s turns, and where one of them is
@@ -186,11 +186,11 @@ module _ {counts : Counts} {plants : List Plant} {segments : List Segment} (boun
 
       -- its tests are the next, before those that are left afterwards
       abbrev own-tests : List Test
-      own-tests = segmentTests (own-account ∷ [])
+      own-tests = segmentTests (emissions .bytes) (own-account ∷ [])
 
       next-tests :
           (lines : List Line) → EmissionsOf counts lines emissions →
-          segmentTests (left plants segments lines s) ≡ own-tests ++ segmentTests (left plants segments lines (suc s))
+          segmentTests (emissions .bytes) (left plants segments lines s) ≡ own-tests ++ segmentTests (emissions .bytes) (left plants segments lines (suc s))
       unfolding segmentTests turns
       next-tests lines is =
           rw (
@@ -201,16 +201,16 @@ module _ {counts : Counts} {plants : List Plant} {segments : List Segment} (boun
 
       pub reached :
           (lines : List Line) → EmissionsOf counts lines emissions → (rest : List Test) (settled : Settlement) →
-          settledBy (segmentTests (left plants segments lines 0) ++ rest) settled
-          ≡ settledBy (own-tests ++ (segmentTests (left plants segments lines (suc s)) ++ rest)) settled
+          settledBy (segmentTests (emissions .bytes) (left plants segments lines 0) ++ rest) settled
+          ≡ settledBy (own-tests ++ (segmentTests (emissions .bytes) (left plants segments lines (suc s)) ++ rest)) settled
       reached lines is rest settled =
           now .tests lines is rest settled
           ∙ ap (λ (tests : List Test). settledBy (tests ++ rest) settled) (next-tests lines is)
-          ∙ ap (λ (tests : List Test). settledBy tests settled) (append-assoc own-tests (segmentTests (left plants segments lines (suc s))) rest)
+          ∙ ap (λ (tests : List Test). settledBy tests settled) (append-assoc own-tests (segmentTests (emissions .bytes) (left plants segments lines (suc s))) rest)
 
       -- a test that fails refuses the period
       pub fails-here :
-          (number place : ℕ) → Passes (refuses number place) own-tests → (lines : List Line) → EmissionsOf counts lines emissions →
-          Passes (refuses number place) (segmentTests (left plants segments lines 0))
-      fails-here number place fails lines is =
-          λ rest settled. reached lines is rest settled ∙ fails (segmentTests (left plants segments lines (suc s)) ++ rest) settled
+          (notice : Notice) → Passes (refuses notice) own-tests → (lines : List Line) → EmissionsOf counts lines emissions →
+          Passes (refuses notice) (segmentTests (emissions .bytes) (left plants segments lines 0))
+      fails-here notice fails lines is =
+          λ rest settled. reached lines is rest settled ∙ fails (segmentTests (emissions .bytes) (left plants segments lines (suc s)) ++ rest) settled

@@ -5,9 +5,8 @@ use mathlib.Core.Bool.{Bool, true, false, cond}
 use mathlib.Core.List.{List, [], _∷_}
 use native.Mathlib.Omega.{arith}
 use lib.ListN.{length, length-map}
-use Rattle.fields.specs.Reasons.{numberOf}
 use Rattle.fields.specs.Readers.{Read, read, refused}
-use Rattle.fields.specs.Tests.{Test, testedBy}
+use Rattle.fields.specs.Tests.{Test, refusalBy, testedBy}
 use Rattle.fields.proofs.Testing.{listed-length}
 use Rattle.records.specs.Plants.{mostPlants}
 use Rattle.records.specs.Segments.{mostSegments}
@@ -28,7 +27,7 @@ unfolding testedBy
 few-by [] settled few = few
 few-by (test ∷ tests) settled few = by-test (test .fails) (few-by tests settled few)
   where
-    by-test : (t : Bool) → Few (settledBy tests settled) → Few (cond t (nothingSettled (numberOf (test .reason)) (test .place)) (settledBy tests settled))
+    by-test : (t : Bool) → Few (settledBy tests settled) → Few (cond t (nothingSettled (refusalBy test)) (settledBy tests settled))
     by-test true rest = record { plants = omega arith; segments = omega arith }
     by-test false rest = rest
 
@@ -37,10 +36,10 @@ pub few-settled : (file : List ℕ) → Few (settlement file)
 unfolding settlement settledPeriod
 few-settled file = by-outcome (periodFile file) refl
   where
-    by-outcome : (outcome : Read Period) → periodFile file ≡ outcome → Few (settledAfter outcome)
-    by-outcome (refused number place) is = record { plants = omega arith; segments = omega arith }
-    by-outcome (read period place rest) is =
-        let within = read-within file period place rest is in
+    by-outcome : (outcome : Read Period) → periodFile file ≡ outcome → Few (settledAfter file outcome)
+    by-outcome (refused notice) is = record { plants = omega arith; segments = omega arith }
+    by-outcome (read period place at) is =
+        let within = read-within file period place at is in
         few-by _ (settledOf period) (record {
           plants = rw (listed-length (plantAccountAt period) 0 (length (period .plants))) (within .counts .most-plants);
           segments = rw (length-map (accountsOf period) segmentAccount, accounts-length period) (within .counts .most-segments);

@@ -135,9 +135,9 @@ module _ {plantColumns : Plants} {segmentColumns : Segments} {counts : Counts} {
         pub turned-refused : (why : Refusal) → answer ≡ Refused why → SettledBy plantColumns segmentColumns counts emissions (nothingKept why)
         unfolding accountsOf arrived
         turned-refused why is lines emitted =
-            let fails = fails-here bounded turned more (due .segment) (segment-is s more) _ _ (rw is at (worked .tests)) lines emitted in
+            let fails = fails-here bounded turned more (due .segment) (segment-is s more) _ (rw is at (worked .tests)) lines emitted in
             let period = periodOf plants segments lines in
-            kept-refused why (ap (λ (tests : List Test). settledBy tests (settledOf period)) (sym (append-nil (segmentTests (accountsOf period)))) ∙ fails [] (settledOf period))
+            kept-refused why (ap (λ (tests : List Test). settledBy tests (settledOf period)) (sym (append-nil (segmentTests (emissions .bytes) (accountsOf period)))) ∙ fails [] (settledOf period))
 
         -- if all pass, the next turn can come
         pub turned-on : answer ≡ Accepted → Turned (suc s) books'
@@ -235,11 +235,11 @@ module _ {plantColumns : Plants} {segmentColumns : Segments} {counts : Counts} {
           })
         where
           none-left :
-              (lines : List Line) → EmissionsOf counts lines emissions → workedOff (periodOf plants segments lines) ≡ settledOf (periodOf plants segments lines)
+              (lines : List Line) → EmissionsOf counts lines emissions → workedOff (emissions .bytes) (periodOf plants segments lines) ≡ settledOf (periodOf plants segments lines)
           none-left lines is =
               let period = periodOf plants segments lines in
               let none : drop (counts .segments) segments ≡ [] =
               drop-of-length-le segments {i = counts .segments} (rw (bounded .segments-counted) (omega arith)) in
-              ap (λ (tests : List Test). settledBy tests (settledOf period)) (sym (append-nil (segmentTests (accountsOf period))))
+              ap (λ (tests : List Test). settledBy tests (settledOf period)) (sym (append-nil (segmentTests (emissions .bytes) (accountsOf period))))
               ∙ worked .tests lines is [] (settledOf period)
-              ∙ ap (λ (gone : List Segment). settledBy (segmentTests (map (account lines) (turns (suc (counts .segments)) gone (after plants segments (counts .segments)))) ++ []) (settledOf period)) none
+              ∙ ap (λ (gone : List Segment). settledBy (segmentTests (emissions .bytes) (map (account lines) (turns (suc (counts .segments)) gone (after plants segments (counts .segments)))) ++ []) (settledOf period)) none

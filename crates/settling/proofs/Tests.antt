@@ -13,7 +13,7 @@ use Rattle.fields.specs.declared.answer.Answer.{Answer}
 use Rattle.fields.specs.declared.answer.Answer.the-variants.{Accepted}
 use Rattle.fields.specs.declared.reason.Reason.the-variants.{InflowTooLarge, OutflowOverInflow, EmissionWithoutInflow}
 use Rattle.fields.specs.Reasons.{numberOf}
-use Rattle.fields.specs.Answers.{accepts, refuses, said}
+use Rattle.fields.specs.Answers.{notice, accepts, refuses, said}
 use Rattle.fields.specs.Tests.{Test, testedBy}
 use Rattle.fields.proofs.Answers.{refuses-not-accepts}
 use Rattle.fields.proofs.Testing.{none-fails}
@@ -25,23 +25,23 @@ use Rattle.settling.specs.Settled.{Settlement, nothingSettled}
 use Rattle.settling.specs.Books.{Passes, Books, figures, accountBy}
 
 -- ---- the tests of one segment
-module _ (a : Account) where
+module _ (bytes : ℕ) (a : Account) where
   abbrev tests : List Test
-  tests = segmentTests (a ∷ [])
+  tests = segmentTests bytes (a ∷ [])
 
   -- 11: the inflow is over the largest number
-  pub inflow-refused : largest < a .inflow → Passes (refuses (numberOf InflowTooLarge) (a .own)) tests
+  pub inflow-refused : largest < a .inflow → Passes (refuses (notice (numberOf InflowTooLarge) (a .own) bytes)) tests
   unfolding testedBy segmentTests
   inflow-refused over = λ rest settled. rw (lt-ltb largest (a .inflow) over) refl
 
   -- 12: the outflow is larger than the inflow
-  pub outflow-refused : a .inflow ≤ largest → a .inflow < a .outflow → Passes (refuses (numberOf OutflowOverInflow) (a .own)) tests
+  pub outflow-refused : a .inflow ≤ largest → a .inflow < a .outflow → Passes (refuses (notice (numberOf OutflowOverInflow) (a .own) bytes)) tests
   unfolding testedBy segmentTests
   outflow-refused fits over = λ rest settled. rw (le-ltb largest (a .inflow) fits, lt-ltb (a .inflow) (a .outflow) over) refl
 
   -- 13: there is an emission and no inflow
   pub emission-refused :
-      a .inflow ≤ largest → a .outflow ≤ a .inflow → 0 < a .emission → a .inflow ≡ 0 → Passes (refuses (numberOf EmissionWithoutInflow) (a .own)) tests
+      a .inflow ≤ largest → a .outflow ≤ a .inflow → 0 < a .emission → a .inflow ≡ 0 → Passes (refuses (notice (numberOf EmissionWithoutInflow) (a .own) bytes)) tests
   unfolding testedBy segmentTests
   emission-refused fits out some none =
       λ rest settled. rw (
@@ -67,8 +67,8 @@ module _ (a : Account) where
   pub segment-sound : Passes accepts tests → Sound a
   unfolding testedBy segmentTests
   segment-sound passes =
-      sound-each (a ∷ [])
-      (none-fails nothingSettled tests empty empty (λ number place e. refuses-not-accepts (ap (λ (x : Settlement). x .verdict) e)) (passes [] empty))
+      sound-each bytes (a ∷ [])
+      (none-fails nothingSettled tests empty empty (λ notice e. refuses-not-accepts (ap (λ (x : Settlement). x .verdict) e)) (passes [] empty))
       0 a (omega arith)
     where
       -- a settlement that is no refusal
@@ -78,10 +78,10 @@ module _ (a : Account) where
 -- the tests of the segment whose turn it is, by its figures
 module _
     (plants : ℕ) (due : Due) (books : Books) (answer : Answer) {inflow : ℕ} (inflow-is : inflow ≡ accountBy plants due books .inflow)
-    (passes : Passes (said answer) (segmentTests (figures (due .index + 1) inflow (due .segment .outflow) (due .emission) ∷ []))) where
-  pub own-tests : Passes (said answer) (segmentTests (accountBy plants due books ∷ []))
+    (passes : Passes (said answer) (segmentTests (due .bytes) (figures (due .index + 1) inflow (due .segment .outflow) (due .emission) ∷ []))) where
+  pub own-tests : Passes (said answer) (segmentTests (due .bytes) (accountBy plants due books ∷ []))
   unfolding segmentTests
   own-tests = rw (inflow-is, add-one) at passes
 
   pub own-sound : answer ≡ Accepted → Sound (accountBy plants due books)
-  own-sound is = segment-sound (accountBy plants due books) (rw is at own-tests)
+  own-sound is = segment-sound (due .bytes) (accountBy plants due books) (rw is at own-tests)

@@ -15,7 +15,7 @@ use Rattle.number.specs.Groups.{largest}
 use Rattle.fields.specs.declared.reason.Reason.the-variants.{TooManyGrams}
 use Rattle.fields.specs.declared.spot.Spot.{Spot}
 use Rattle.fields.specs.Reasons.{numberOf}
-use Rattle.fields.specs.Answers.{Verdict, accepts, refuses}
+use Rattle.fields.specs.Answers.{notice, Verdict, accepts, refuses}
 use Rattle.fields.specs.Reaching.{whole, readsFrom}
 use Rattle.fields.specs.Tests.{testedBy}
 use Rattle.records.specs.declared.counts.Counts.{Counts}
@@ -95,14 +95,14 @@ grams-after ownerKind owner lines line =
 
 -- ---- the lines added up one by one: the first l are, and passed their tests
 -- what 10 says of some lines
-abbrev pub tenOf : List Line → Verdict
-tenOf lines = testedBy refuses (lineTests lines 0 lines) accepts
+abbrev pub tenOf : (starts : ℕ → ℕ) → List Line → Verdict
+tenOf starts lines = testedBy refuses (lineTests starts lines 0 lines) accepts
 
-pub record Adding (lines : List Line) (totals : List Totals) (l : ℕ) : Type 0 where
+pub record Adding (starts : ℕ → ℕ) (lines : List Line) (totals : List Totals) (l : ℕ) : Type 0 where
   pub places : length totals ≡ owners
   pub few : FewGrams totals
   pub total : (ownerKind owner place : ℕ) → Owner ownerKind owner place → gramsAt totals place ≡ gramsOf (ownedBy ownerKind owner) (take l lines)
-  pub passed : tenOf lines ≡ testedBy refuses (lineTests lines l (drop l lines)) accepts
+  pub passed : tenOf starts lines ≡ testedBy refuses (lineTests starts lines l (drop l lines)) accepts
 
 -- the line of a turn, and the place of its owner's total
 pub record Next (lines : List Line) (l : ℕ) (line : Line) (place : ℕ) : Type 0 where
@@ -127,15 +127,15 @@ grams-there totals place t sized below = ap (λ (x : Totals). x .grams) (getD-se
 pub grams-elsewhere : (totals : List Totals) (place other : ℕ) (t : Totals) → (other ≡ place → ⊥) → gramsAt (set totals place t) other ≡ gramsAt totals other
 grams-elsewhere totals place other t p = ap (λ (x : Totals). x .grams) (getD-set-other totals place other t noTotals p)
 
-pub adding-start : (lines : List Line) → Adding lines (replicate owners noTotals) 0
-adding-start lines = record {
+pub adding-start : (starts : ℕ → ℕ) (lines : List Line) → Adding starts lines (replicate owners noTotals) 0
+adding-start starts lines = record {
   places = refl;
   few = λ o. rw (no-totals o) (omega arith);
   total = λ ownerKind owner place o. no-totals place ∙ sym (no-grams (ownedBy ownerKind owner));
   passed = refl;
 }
 
-module _ {lines : List Line} {totals : List Totals} {l : ℕ} {line : Line} {place : ℕ} (a : Adding lines totals l) (next : Next lines l line place) where
+module _ {starts : ℕ → ℕ} {lines : List Line} {totals : List Totals} {l : ℕ} {line : Line} {place : ℕ} (a : Adding starts lines totals l) (next : Next lines l line place) where
   -- the grams of the line's owner, with this line
   abbrev line-total : ℕ
   line-total = gramsAt totals place + grams line
@@ -151,8 +151,8 @@ module _ {lines : List Line} {totals : List Totals} {l : ℕ} {line : Line} {pla
 
   -- that total is what the line's test compares
   line-tested :
-      tenOf lines
-      ≡ cond (ltb mostGrams line-total) (refuses (numberOf TooManyGrams) (suc l)) (testedBy refuses (lineTests lines (suc l) (drop (suc l) lines)) accepts)
+      tenOf starts lines
+      ≡ cond (ltb mostGrams line-total) (refuses (notice (numberOf TooManyGrams) (suc l) (starts l))) (testedBy refuses (lineTests starts lines (suc l) (drop (suc l) lines)) accepts)
   unfolding testedBy lineTests
   line-tested =
       a .passed
@@ -177,7 +177,7 @@ module _ {lines : List Line} {totals : List Totals} {l : ℕ} {line : Line} {pla
       (λ place' p. rw (ne-eqb place' place p) (omega arith))
 
   -- the line passes its test
-  pub adding-on : line-total ≤ mostGrams → Adding lines (set totals place (record { grams = line-total })) (l + 1)
+  pub adding-on : line-total ≤ mostGrams → Adding starts lines (set totals place (record { grams = line-total })) (l + 1)
   adding-on few = rw (add-one l) (record {
     places = length-set totals place (record { grams = line-total }) ∙ a .places;
     few = written (λ (place' total : ℕ). total ≤ mostGrams) few (λ place' p. a .few place');
@@ -186,7 +186,7 @@ module _ {lines : List Line} {totals : List Totals} {l : ℕ} {line : Line} {pla
   })
 
   -- the line fails its test
-  pub adding-refused : mostGrams < line-total → tenOf lines ≡ refuses (numberOf TooManyGrams) (l + 1)
+  pub adding-refused : mostGrams < line-total → tenOf starts lines ≡ refuses (notice (numberOf TooManyGrams) (l + 1) (starts l))
   adding-refused many = line-tested ∙ rw (lt-ltb mostGrams line-total many, add-one l)
 
 -- ---- the totals in kg

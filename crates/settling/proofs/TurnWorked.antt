@@ -53,7 +53,7 @@ module _
   own-account = accountBy (counts .plants) due books
 
   abbrev own-tests : List Test
-  own-tests = segmentTests (own-account ∷ [])
+  own-tests = segmentTests (emissions .bytes) (own-account ∷ [])
 
   inside : s < mostSegments
   inside = inside-of bounded now below segment is-next
@@ -115,7 +115,7 @@ module _
           out = rw same (past .out);
         }
     past-on j (inr e) = rw e (
-        let sound : Sound own-account = segment-sound own-account passes-all in
+        let sound : Sound own-account = segment-sound (emissions .bytes) own-account passes-all in
         record {
           amounts = λ p here. amount-stays p s here (omega arith) ∙ now .amounts p s (placed bounded s p here) (omega arith) inside;
           members = set-stays s (omega arith) ∙ now .members s (omega arith) inside;
@@ -172,7 +172,7 @@ module _
           (brought (suc s) (segment .next) (credit p) (where-is s p) 0 (λ e. omega (arith, e)));
       past = λ j earlier. past-on j (⊎-elim (λ same. inr same) (λ before. inl before) (eq-or-lt-of-le (le-of-suc-le-suc earlier)));
       tests = λ lines is rest settled.
-          reached-by bounded now below segment is-next lines is rest settled ∙ passes-all (segmentTests (left plants segments lines (suc s)) ++ rest) settled;
+          reached-by bounded now below segment is-next lines is rest settled ∙ passes-all (segmentTests (emissions .bytes) (left plants segments lines (suc s)) ++ rest) settled;
     }
 
   -- what work makes of the turn: the period is refused, or the next turn can come

@@ -24,7 +24,7 @@ use Rattle.settling.specs.Settled.{Settlement, nothingSettled, settledBy
 -- ---- tests, whatever follows them: none fails, or the first that fails refuses
 abbrev pub Passes : Verdict → List Test → Type 0
 Passes accepts tests = (rest : List Test) (settled : Settlement) → settledBy (tests ++ rest) settled ≡ settledBy rest settled
-Passes (refuses number place) tests = (rest : List Test) (settled : Settlement) → settledBy (tests ++ rest) settled ≡ nothingSettled number place
+Passes (refuses notice) tests = (rest : List Test) (settled : Settlement) → settledBy (tests ++ rest) settled ≡ nothingSettled notice
 
 -- ---- the books: a table with an amount for each plant and segment; for each segment its set and its inflow; and what each plant has stored
 pub record Books : Type 0 where
@@ -121,5 +121,5 @@ module _ (plants : ℕ) (due : Due) (books : Books) where
 
   -- What a turn gives: a test refuses the period; or all pass, and the plants go on (rule 8.6).
   pub record Worked (answer : Answer) (books' : Books) : Type 0 where
-    pub tests : Passes (said answer) (segmentTests (accountBy ∷ []))
+    pub tests : Passes (said answer) (segmentTests (due .bytes) (accountBy ∷ []))
     pub moved : answer ≡ Accepted → Moved books'

@@ -20,6 +20,7 @@ use Rattle.records.specs.Plants.{mostPlants}
 use Rattle.records.specs.Segments.{mostSegments}
 use Rattle.records.specs.Classes.{plantOwner, segmentOwner}
 use Rattle.records.specs.Lines.{mostGrams}
+use Rattle.records.specs.Places.{lineStart}
 use Rattle.records.specs.Periods.{Period, periodOf, linesOf}
 use Rattle.records.specs.Within.{CountsWithin, PlantWithin, SegmentWithin}
 use Rattle.accounts.specs.Sums.{roundedUp}
@@ -60,9 +61,9 @@ overGrams = mostGrams + 1
 abbrev pub withLine : Totals → Line → Totals
 withLine totals line = record { grams = min (totals .grams + grams line) overGrams }
 
--- The first line that passes the limit, 0 if there is none yet (rule 8.5).
-abbrev pub firstOver : ℕ → Totals → ℕ → ℕ
-firstOver over total line = cond (eqb over 0 && ltb mostGrams (total .grams)) line over
+-- The first line that passes the limit, by its number and its first byte; its number is 0 if there is none yet (rules 8.5 and 8.9).
+abbrev pub firstOver : Spot → Totals → Spot → Spot
+firstOver over total line = cond (eqb (over .place) 0 && ltb mostGrams (total .grams)) line over
 
 -- No total passes the limit (rule 8.5).
 abbrev pub FewGrams : List Totals → Type 0
@@ -90,22 +91,23 @@ pub record EmissionsOf (counts : Counts) (lines : List Line) (emissions : Emissi
 
 -- The answer for lines that are refused.
 abbrev pub noEmissions : Refusal → Emissions
-noEmissions why = record { answer = Refused why; plants = replicate mostSegments 0; segments = replicate mostSegments 0 }
+noEmissions why = record { answer = Refused why; bytes = 0; plants = replicate mostSegments 0; segments = replicate mostSegments 0 }
 
 -- One verdict, and then another: the first refusal decides.
 abbrev pub andThen : Verdict → Verdict → Verdict
-andThen (refuses number place) later = refuses number place
+andThen (refuses notice) later = refuses notice
 andThen accepts later = later
 
 -- What is said of the lines that are read: first the end of the file, then 10 over the lines (rules 8.4 and 8.5).
-abbrev pub linesRuling : List ℕ → Reach (List Line) → Verdict
-linesRuling file (whole lines last) = andThen (endAt file last) (testedBy refuses (lineTests lines 0 lines) accepts)
-linesRuling file (stopped number place) = refuses number place
+abbrev pub linesRuling : List ℕ → Counts → Reach (List Line) → Verdict
+linesRuling file counts (whole lines last) = andThen (endAt file last) (testedBy refuses (lineTests (lineStart file counts) lines 0 lines) accepts)
+linesRuling file counts (stopped notice) = refuses notice
 
--- What adding them up gives: the verdict and, if it is acceptance, the emissions (rules 4.3, 8.4 and 8.5).
+-- What adding them up gives: the verdict and, if it is acceptance, the emissions and how many bytes were read (rules 4.3, 8.4, 8.5 and 8.9).
 pub record AddedUp (file : List ℕ) (start : Spot) (counts : Counts) (r : Emissions) : Type 0 where
-  pub verdict : said (r .answer) ≡ linesRuling file (readsFrom (linesOf counts) file start)
+  pub verdict : said (r .answer) ≡ linesRuling file counts (readsFrom (linesOf counts) file start)
   pub emitted : r .answer ≡ Accepted → (lines : List Line) (last : Spot) → readsFrom (linesOf counts) file start ≡ whole lines last → EmissionsOf counts lines r
+  pub all-bytes : r .answer ≡ Accepted → r .bytes ≡ length file
   pub small : SmallEmissions r
 
 -- ---- what is charged, by the books
@@ -180,17 +182,17 @@ pub record Given (plants : Plants) (segments : Segments) (counts : Counts) (emis
 
 -- The segment at an index, when its turn comes (rule 5.1).
 abbrev pub dueBy : Segments → Emissions → ℕ → Due
-dueBy segments emissions s = record { index = s; segment = segmentBy segments s; emission = getD (emissions .segments) s 0 }
+dueBy segments emissions s = record { index = s; segment = segmentBy segments s; emission = getD (emissions .segments) s 0; bytes = emissions .bytes }
 
--- The settlement of a period by the tests after those of the lines (rule 8.6).
-abbrev pub workedOff : Period → Settlement
-workedOff period = settledBy (segmentTests (accountsOf period)) (settledOf period)
+-- The settlement of a period by the tests after those of the lines, if so many bytes were read (rules 8.6 and 8.9).
+abbrev pub workedOff : (bytes : ℕ) → Period → Settlement
+workedOff bytes period = settledBy (segmentTests bytes (accountsOf period)) (settledOf period)
 
 -- Settling gives that, for all such lines.
 abbrev pub SettledBy : Plants → Segments → Counts → Emissions → Settled → Type 0
 SettledBy plants segments counts emissions r =
     (lines : List Line) → EmissionsOf counts lines emissions →
-    Settles r (workedOff (periodOf (plantsBy plants (counts .plants)) (segmentsBy segments (counts .segments)) lines))
+    Settles r (workedOff (emissions .bytes) (periodOf (plantsBy plants (counts .plants)) (segmentsBy segments (counts .segments)) lines))
 
 -- ---- the code's answer to a refused file
 abbrev pub nothingKept : Refusal → Settled

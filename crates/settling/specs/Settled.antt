@@ -3,13 +3,15 @@ use Prim.Native.Nat.{ℕ}
 use mathlib.Core.Path.{_≡_}
 use mathlib.Core.List.{List, [], _++_, map}
 use lib.ListN.{length, getD}
-use Rattle.fields.specs.Answers.{Verdict, accepts, refuses, said}
+use Rattle.fields.specs.Answers.{Notice, Verdict, accepts, refuses, said}
 use Rattle.fields.specs.Lists.{filled}
 use Rattle.fields.specs.Readers.{Read, read, refused}
 use Rattle.fields.specs.Tests.{Test, testedBy, listed}
 use Rattle.records.specs.Plants.{mostPlants, noPlant}
 use Rattle.records.specs.Segments.{mostSegments}
 use Rattle.records.specs.Periods.{Period, periodFile}
+use Rattle.records.specs.Places.{lineStart}
+use Rattle.records.specs.Within.{countsOf}
 use Rattle.accounts.specs.Flow.{nowhere}
 use Rattle.accounts.specs.Accounts.{Account}
 use Rattle.accounts.specs.Rows.{associated}
@@ -59,8 +61,8 @@ pub record Settlement : Type 0 where
   pub segments : List SegmentAccount
 
 -- A refusal has no accounts.
-abbrev pub nothingSettled : (number place : ℕ) → Settlement
-nothingSettled number place = record { verdict = refuses number place; plants = []; segments = [] }
+abbrev pub nothingSettled : Notice → Settlement
+nothingSettled notice = record { verdict = refuses notice; plants = []; segments = [] }
 
 -- An accepted period has those of all its plants and segments.
 abbrev pub settledOf : Period → Settlement
@@ -70,18 +72,21 @@ settledOf period = record { verdict = accepts; plants = plantAccounts period; se
 abbrev pub settledBy : List Test → Settlement → Settlement
 settledBy = testedBy nothingSettled
 
--- The settlement of a period that was read, by the tests of its lines and then of its segments (rules 8.5 and 8.6).
-unfoldable pub settledPeriod : Period → Settlement
-settledPeriod period = settledBy (lineTests (period .lines) 0 (period .lines) ++ segmentTests (accountsOf period)) (settledOf period)
+-- The settlement of a period that was read from a file, by the tests of its lines and then of its segments (rules 8.5, 8.6 and 8.9).
+unfoldable pub settledPeriod : (file : List ℕ) → Period → Settlement
+settledPeriod file period =
+    settledBy
+    (lineTests (lineStart file (countsOf period)) (period .lines) 0 (period .lines) ++ segmentTests (length file) (accountsOf period))
+    (settledOf period)
 
 -- A refusal of reading decides; a period that was read is settled (rule 8.8).
-abbrev pub settledAfter : Read Period → Settlement
-settledAfter (refused number place) = nothingSettled number place
-settledAfter (read period place rest) = settledPeriod period
+abbrev pub settledAfter : (file : List ℕ) → Read Period → Settlement
+settledAfter file (refused notice) = nothingSettled notice
+settledAfter file (read period place at) = settledPeriod file period
 
 -- The settlement of a file (rules 8.3 to 8.6).
 unfoldable pub settlement : List ℕ → Settlement
-settlement file = settledAfter (periodFile file)
+settlement file = settledAfter file (periodFile file)
 
 -- ---- the promise of the call
 -- A column: one figure of each account, in an array with `room` entries, and zeros behind.

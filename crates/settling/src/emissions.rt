@@ -2,6 +2,7 @@
 ghost use mathlib.Core.Path.{_≡_};
 ghost use Prim.Native.Nat.{_+_, _≤_};
 ghost use Rattle.records.specs.Plants.{mostPlants};
+ghost use Rattle.records.specs.Places.{lineStart};
 ghost use Rattle.records.specs.Segments.{mostSegments};
 ghost use Rattle.records.specs.Within.{CountsWithin, LineWithin, mostCounts};
 ghost use Rattle.settling.specs.Inside.{AddedUp, FewGrams, firstOver, noEmissions, noTotals, overGrams, ownerPlace, Rounded, withLine};
@@ -52,6 +53,8 @@ impl Totals {
 // What the owners emit: accepted if the lines are read to the end of the file and no total passes the limit (rules 4.3 and 8.5).
 pub(crate) struct Emissions {
     pub(crate) answer: Answer,
+    // How many bytes were read up to the end of the file: the offset of what the accounts refuse (rule 8.9).
+    pub(crate) bytes: u64,
     // The kg of each plant and of each segment, by its index.
     pub(crate) plants: [u64; Emissions::OWNERS],
     pub(crate) segments: [u64; Emissions::OWNERS],
@@ -68,10 +71,12 @@ impl Emissions {
 // Adds up the lines from a spot on. The first line that passes the limit is the answer only if the file is read to its end (rules 4.2 and 8.5).
 pub(crate) fn add_up(file: &[u8], start: Spot, counts: Counts) -> Emissions
     requires { ⌜ CountsWithin counts ⌝ }
+    requires { ⌜ start .byte ≡ lineStart (now file) counts 0 ⌝ }
     ensures { λ r. ⌜ AddedUp (now (file .entry)) start counts r ⌝ }
 {
     let mut totals = [Totals::none(); Emissions::PLACES];
-    let mut over = 0;
+    // No line has the place 0.
+    let mut over = Spot { byte: 0, place: 0 };
     let mut at = start;
     let mut l = 0;
     while l < counts.lines {
@@ -82,7 +87,12 @@ pub(crate) fn add_up(file: &[u8], start: Spot, counts: Counts) -> Emissions
                 let so_far = totals[owner];
                 let total = so_far.with(line);
                 totals[owner] = total;
-                over = first_over(over, total, l + 1);
+                let own = l + 1;
+                let here = Spot {
+                    byte: at.byte,
+                    place: own,
+                };
+                over = first_over(over, total, here);
                 at = next;
             }
         }
@@ -92,14 +102,12 @@ pub(crate) fn add_up(file: &[u8], start: Spot, counts: Counts) -> Emissions
     if let Answer::Refused(refusal) = answer {
         return refused(refusal);
     }
-    if over != 0 {
-        return refused(Refusal {
-            reason: Reason::TooManyGrams,
-            place: over,
-        });
+    if over.place != 0 {
+        return refused(over.refusal(Reason::TooManyGrams));
     }
     Emissions {
         answer,
+        bytes: file.len() as u64,
         plants: in_kg(totals, 0, counts.plants as usize),
         segments: in_kg(totals, Plant::MOST, counts.segments as usize),
     }
@@ -113,14 +121,15 @@ fn place_of(line: Line) -> usize
     Plant::MOST * line.owner_kind as usize + line.owner as usize - 1
 }
 
-// The first line whose owner's total passes the limit, 0 if there is none yet: the one found before, or else this one (rule 8.5).
-fn first_over(over: u64, total: Totals, line: u64) -> u64
+// The first line whose owner's total passes the limit, by its number and its first byte, 0 if there is none yet: the one found before, or else
+// this one (rules 8.5 and 8.9).
+fn first_over(over: Spot, total: Totals, line: Spot) -> Spot
     ensures { λ r. ⌜ r ≡ firstOver over total line ⌝ }
 {
     if total.grams <= Line::MOST_GRAMS {
         return over;
     }
-    if over == 0 { line } else { over }
+    if over.place == 0 { line } else { over }
 }
 
 // The answer for lines that are refused.
@@ -129,6 +138,7 @@ fn refused(refusal: Refusal) -> Emissions
 {
     Emissions {
         answer: Answer::Refused(refusal),
+        bytes: 0,
         plants: [0; Emissions::OWNERS],
         segments: [0; Emissions::OWNERS],
     }

@@ -24,11 +24,12 @@ use number::Number;
 use records::Plant;
 use records::Segment;
 
-// The segment whose turn it is: its index, its record, and what it emits in kg.
+// The segment whose turn it is: its index, its record, what it emits in kg, and how many bytes were read.
 pub(crate) struct Due {
     pub(crate) index: usize,
     pub(crate) segment: Segment,
     pub(crate) emission: u64,
+    pub(crate) bytes: u64,
 }
 
 // Puts every plant's export at its first segment, and the plant into that segment's set (rules 5.2 and 5.7).
@@ -73,7 +74,7 @@ pub(crate) fn work(
     let segment = due.segment;
     let outflow = segment.outflow as u64;
     let inflow = inflow_of(amounts, plants, s);
-    let answer = test(s as u64 + 1, inflow, outflow, due.emission);
+    let answer = test(s as u64 + 1, inflow, outflow, due.emission, due.bytes);
     if let Answer::Refused(_refusal) = answer {
         return answer;
     }
@@ -107,18 +108,18 @@ fn inflow_of(amounts: &[[u32; Segment::MOST]; Plant::MOST], plants: usize, s: us
     inflow
 }
 
-// The tests of the segment with its own number, in their order (rule 8.6).
-fn test(own: u64, inflow: u64, outflow: u64, emission: u64) -> Answer
-    ensures { λ r. ⌜ Passes (said r) (segmentTests (figures own inflow outflow emission ∷ [])) ⌝ }
+// The tests of the segment with its own number, in their order; a refusal has the length of what was read as offset (rules 8.6 and 8.9).
+fn test(own: u64, inflow: u64, outflow: u64, emission: u64, bytes: u64) -> Answer
+    ensures { λ r. ⌜ Passes (said r) (segmentTests bytes (figures own inflow outflow emission ∷ [])) ⌝ }
 {
     if Number::LARGEST < inflow {
-        return Answer::refused(Reason::InflowTooLarge, own);
+        return Answer::refused(Reason::InflowTooLarge, own, bytes);
     }
     if inflow < outflow {
-        return Answer::refused(Reason::OutflowOverInflow, own);
+        return Answer::refused(Reason::OutflowOverInflow, own, bytes);
     }
     if 0 < emission && inflow == 0 {
-        return Answer::refused(Reason::EmissionWithoutInflow, own);
+        return Answer::refused(Reason::EmissionWithoutInflow, own, bytes);
     }
     Answer::Accepted
 }

@@ -143,6 +143,7 @@ fn settle_period(
             index: s,
             segment,
             emission: emissions.segments[s],
+            bytes: emissions.bytes,
         };
         let answer = work(
             &mut amounts,

@@ -67,7 +67,7 @@ mod tests {
         ];
         let asked = files.map(|file| NumberAt {
             file: file.to_vec(),
-            offset: 0,
+            byte: 0,
         });
         asked.to_vec()
     }
@@ -82,7 +82,7 @@ mod tests {
 
     #[test]
     fn expected_lines_agree() {
-        let output = b"N 300 2\nR 1 0\nR 2 0\nR 3 0\n";
+        let output = b"N 300 0 2\nR 1 0 0\nR 2 0 0\nR 3 0 0\n";
         assert!(compare_output(&four_cases(), output).passed());
         assert_eq!(
             report_on(output),
@@ -92,25 +92,25 @@ mod tests {
 
     #[test]
     fn wrong_lines_are_shown_with_what_was_asked() {
-        let report = report_on(b"N 300 1\nR 1 0\nR 3 0\nR 3 0\n");
+        let report = report_on(b"N 300 0 1\nR 1 0 0\nR 3 0 0\nR 3 0 0\n");
         let lines: Vec<&str> = report.lines().skip(1).collect();
         assert_eq!(
             lines,
             [
-                r#"  case 1: bytes [AC 02], offset 0: expected "N 300 2", came "N 300 1""#,
-                r#"  case 3: bytes [80 00], offset 0: expected "R 2 0", came "R 3 0""#,
+                r#"  case 1: bytes [AC 02], asked at 0: expected "N 300 0 2", came "N 300 0 1""#,
+                r#"  case 3: bytes [80 00], asked at 0: expected "R 2 0 0", came "R 3 0 0""#,
             ]
         );
     }
 
     #[test]
     fn missing_line_differs() {
-        let report = report_on(b"N 300 2\nR 1 0\nR 2 0\n");
+        let report = report_on(b"N 300 0 2\nR 1 0 0\nR 2 0 0\n");
         let lines: Vec<&str> = report.lines().skip(1).collect();
         assert_eq!(
             lines,
             [
-                r#"  case 4: bytes [81 D0 AC F3 0E], offset 0: expected "R 3 0", came no line"#,
+                r#"  case 4: bytes [81 D0 AC F3 0E], asked at 0: expected "R 3 0 0", came no line"#,
                 "  too few answers: 3 for 4 cases",
             ]
         );
@@ -118,7 +118,7 @@ mod tests {
 
     #[test]
     fn line_too_many_is_a_fault() {
-        let output = b"N 300 2\nR 1 0\nR 2 0\nR 3 0\n\n";
+        let output = b"N 300 0 2\nR 1 0 0\nR 2 0 0\nR 3 0 0\n\n";
         assert!(!compare_output(&four_cases(), output).passed());
         assert!(report_on(output).ends_with("\n  1 bytes after the last answer\n"));
     }

@@ -71,7 +71,7 @@ mod tests {
 
     #[test]
     fn equal_texts_do_not_differ() {
-        for text in [&b""[..], b"R 1 0\n", b"P 1 0\nS 1 0\n"] {
+        for text in [&b""[..], b"R 1 0 0\n", b"P 1 0\nS 1 0\n"] {
             assert_eq!(first_line_that_differs(text, text), None);
         }
     }

@@ -84,7 +84,7 @@ mod tests {
 
     fn refusal_of(form: &[u8]) -> Option<Refusal> {
         match read_number(form, 0) {
-            Reading::Refused(refusal) => Some(refusal),
+            Reading::Refused { refusal, .. } => Some(refusal),
             Reading::Number { .. } => None,
         }
     }

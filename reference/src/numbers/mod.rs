@@ -2,6 +2,7 @@
 
 pub mod faults;
 pub mod in_order;
+pub mod lengths;
 pub mod number;
 pub mod question;
 pub mod suites;

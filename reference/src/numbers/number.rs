@@ -11,16 +11,17 @@ pub const MOST_GROUPS: usize = 5;
 /// The largest value a number may have.
 pub const LIMIT: u64 = 4_000_000_000;
 
-/// What is at an offset of a file.
+/// What is at a byte of a file. The offset is the first byte of the number; if the file has no
+/// byte of it, the length of the file.
 #[derive(Clone, Copy, Debug, PartialEq, Eq)]
 pub enum Reading {
-    /// A number, and the offset just past its last byte.
-    Number { value: u64, next: u64 },
-    /// No number, and why.
-    Refused(Refusal),
+    /// A number: its value, its offset, and the byte just past its last.
+    Number { value: u64, offset: u64, next: u64 },
+    /// No number: why, and its offset.
+    Refused { refusal: Refusal, offset: u64 },
 }
 
-/// Why no number can be read at an offset.
+/// Why no number can be read at a byte.
 #[derive(Clone, Copy, Debug, PartialEq, Eq)]
 pub enum Refusal {
     /// The file has no byte where a group is needed.
@@ -42,39 +43,52 @@ impl Refusal {
     }
 }
 
-/// Reads the number at `offset`, byte by byte, so that the first fault met is the one answered.
-pub fn read_number(file: &[u8], offset: u64) -> Reading {
+/// Reads the number at this byte of the file. Any byte may be asked, also one past the end.
+pub fn read_number(file: &[u8], asked: u64) -> Reading {
+    let offset = asked.min(file.len() as u64);
+    match first_number(&file[offset as usize..]) {
+        Ok((value, groups)) => Reading::Number {
+            value,
+            offset,
+            next: offset + groups as u64,
+        },
+        Err(refusal) => Reading::Refused { refusal, offset },
+    }
+}
+
+/// The value of the number that these bytes start with, and how many groups it has. It is read
+/// byte by byte, so that the first fault met is the one answered.
+fn first_number(bytes: &[u8]) -> Result<(u64, usize), Refusal> {
     let mut value = 0;
-    for (index, &byte) in bytes_from(file, offset).iter().enumerate() {
+    for (index, &byte) in bytes.iter().enumerate() {
         let group = byte & GROUP_MASK;
         value += u64::from(group) << (GROUP_BITS * index);
 
         let groups = index + 1;
         let more_follow = byte & MORE_FOLLOW != 0;
         if more_follow && groups == MOST_GROUPS {
-            return Reading::Refused(Refusal::TooLarge);
+            return Err(Refusal::TooLarge);
         }
         if more_follow {
             continue;
         }
         if groups > 1 && group == 0 {
-            return Reading::Refused(Refusal::NotShortest);
+            return Err(Refusal::NotShortest);
         }
         if value > LIMIT {
-            return Reading::Refused(Refusal::TooLarge);
+            return Err(Refusal::TooLarge);
         }
-        let next = offset + groups as u64;
-        return Reading::Number { value, next };
+        return Ok((value, groups));
     }
-    Reading::Refused(Refusal::FileEnds)
+    Err(Refusal::FileEnds)
 }
 
-/// The bytes of the file from `offset` on: none if the offset is at the end or past it.
-fn bytes_from(file: &[u8], offset: u64) -> &[u8] {
-    usize::try_from(offset)
-        .ok()
-        .and_then(|start| file.get(start..))
-        .unwrap_or_default()
+/// Those of the bytes that belong to the number they start with, be it sound or not: all up to a
+/// group that no other follows, but no more than a number may have.
+pub fn bytes_of_number(bytes: &[u8]) -> &[u8] {
+    let most = &bytes[..bytes.len().min(MOST_GROUPS)];
+    let last = most.iter().position(|byte| byte & MORE_FOLLOW == 0);
+    last.map_or(most, |last| &most[..=last])
 }
 
 /// Writes a value in its shortest form. Values above the limit are written
@@ -112,12 +126,25 @@ fn lowest_group(value: u64) -> u8 {
 mod tests {
     use super::*;
 
-    const FILE_ENDS: Reading = Reading::Refused(Refusal::FileEnds);
-    const NOT_SHORTEST: Reading = Reading::Refused(Refusal::NotShortest);
-    const TOO_LARGE: Reading = Reading::Refused(Refusal::TooLarge);
+    const NOT_SHORTEST: Reading = refused(Refusal::NotShortest, 0);
+    const TOO_LARGE: Reading = refused(Refusal::TooLarge, 0);
 
+    const fn refused(refusal: Refusal, offset: u64) -> Reading {
+        Reading::Refused { refusal, offset }
+    }
+
+    const fn file_ends(offset: u64) -> Reading {
+        refused(Refusal::FileEnds, offset)
+    }
+
+    /// A number at the front of a file.
     fn number(value: u64, next: u64) -> Reading {
-        Reading::Number { value, next }
+        let offset = 0;
+        Reading::Number {
+            value,
+            offset,
+            next,
+        }
     }
 
     #[test]
@@ -143,10 +170,10 @@ mod tests {
 
     #[test]
     fn file_that_ends_is_refused_first() {
-        assert_eq!(read_number(&[], 0), FILE_ENDS);
-        assert_eq!(read_number(&[0x80], 0), FILE_ENDS);
-        assert_eq!(read_number(&[0x80, 0x80, 0x80, 0x80], 0), FILE_ENDS);
-        assert_eq!(read_number(&[0xFF, 0xFF, 0xFF, 0xFF], 0), FILE_ENDS);
+        assert_eq!(read_number(&[], 0), file_ends(0));
+        assert_eq!(read_number(&[0x80], 0), file_ends(0));
+        assert_eq!(read_number(&[0x80, 0x80, 0x80, 0x80], 0), file_ends(0));
+        assert_eq!(read_number(&[0xFF, 0xFF, 0xFF, 0xFF], 0), file_ends(0));
     }
 
     #[test]
@@ -188,18 +215,57 @@ mod tests {
     }
 
     #[test]
-    fn offset_decides_where_reading_starts() {
+    fn asked_byte_decides_where_reading_starts() {
         let file = [0x80, 0x80, 0xAC, 0x02, 0xFF];
-        assert_eq!(read_number(&file, 2), number(300, 4));
-        assert_eq!(read_number(&file, 3), number(2, 4));
-        assert_eq!(read_number(&file, 4), FILE_ENDS);
+        let read = |asked| match read_number(&file, asked) {
+            Reading::Number {
+                value,
+                offset,
+                next,
+            } => [value, offset, next],
+            Reading::Refused { refusal, .. } => panic!("{refusal:?} at {asked}"),
+        };
+        assert_eq!(read(2), [300, 2, 4]);
+        assert_eq!(read(3), [2, 3, 4]);
+        assert_eq!(read_number(&file, 4), file_ends(4));
     }
 
     #[test]
-    fn offset_past_the_end_finds_no_number() {
+    fn fault_has_the_first_byte_of_its_number() {
+        let behind_three = |form: &[u8]| read_number(&[&[0x01; 3], form].concat(), 3);
+        assert_eq!(behind_three(&[0x80]), file_ends(3));
+        assert_eq!(behind_three(&[0xFF; 4]), file_ends(3));
+        assert_eq!(
+            behind_three(&[0x80, 0x00]),
+            refused(Refusal::NotShortest, 3)
+        );
+        assert_eq!(behind_three(&[0x80; 5]), refused(Refusal::TooLarge, 3));
+        let one_above = write_number(LIMIT + 1);
+        assert_eq!(behind_three(&one_above), refused(Refusal::TooLarge, 3));
+    }
+
+    #[test]
+    fn number_without_a_byte_has_the_length_of_the_file() {
         let file = [0x01; 8];
-        for offset in [8, 9, 1 << 32, (1 << 32) + 1, 1 << 63, u64::MAX] {
-            assert_eq!(read_number(&file, offset), FILE_ENDS, "offset {offset}");
+        for asked in [8, 9, 1 << 32, (1 << 32) + 1, 1 << 63, u64::MAX] {
+            assert_eq!(read_number(&file, asked), file_ends(8), "asked at {asked}");
+            assert_eq!(read_number(&[], asked), file_ends(0), "asked at {asked}");
+        }
+    }
+
+    #[test]
+    fn bytes_of_a_number_end_with_its_last_group_or_the_file() {
+        let form = [0x80, 0x81, 0xFF, 0x80, 0x80, 0x00];
+        for (given, expected) in [
+            (&form[..], &form[..5]),
+            (&form[1..], &form[1..]),
+            (&form[4..], &form[4..]),
+            (&form[..4], &form[..4]),
+            (&form[..1], &form[..1]),
+            (&[0x7F, 0x80], &[0x7F]),
+            (&[], &[]),
+        ] {
+            assert_eq!(bytes_of_number(given), expected);
         }
     }
 
@@ -234,7 +300,7 @@ mod tests {
                 choice /= BYTES.len();
                 byte
             });
-            if let Reading::Number { value, next } = read_number(&file, 0) {
+            if let Reading::Number { value, next, .. } = read_number(&file, 0) {
                 assert!(file.starts_with(&write_number(value)), "bytes {file:02X?}");
                 assert_eq!(next, write_number(value).len() as u64, "bytes {file:02X?}");
                 numbers += 1;

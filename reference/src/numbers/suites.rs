@@ -22,8 +22,12 @@ pub fn number_suites() -> Vec<Suite<NumberAt>> {
             values_at_edges(),
         ),
         Suite::new(
-            "numbers, offsets in the file and far past it",
-            offsets_near_and_far(),
+            "numbers, asked in the file and far past it",
+            asked_near_and_far(),
+        ),
+        Suite::new(
+            "numbers, long files asked around their ends and past them",
+            long_files_asked_at_ends(),
         ),
         Suite::new(
             "numbers, seeded whole and damaged",
@@ -44,7 +48,7 @@ fn edge_bytes() -> Vec<u8> {
 
 /// The case that asks at the front of a file.
 fn asked_at_front(file: Vec<u8>) -> NumberAt {
-    NumberAt { file, offset: 0 }
+    NumberAt { file, byte: 0 }
 }
 
 // Suite: all of one and two bytes.
@@ -134,7 +138,7 @@ fn values_at_edges() -> Vec<NumberAt> {
             for after in BYTES_AFTER {
                 cases.push(NumberAt {
                     file: [before, &form, after].concat(),
-                    offset: before.len() as u64,
+                    byte: before.len() as u64,
                 });
             }
         }
@@ -161,16 +165,16 @@ fn forms_of(value: u64) -> Vec<Vec<u8>> {
     padded.chain(cut).chain([shortest.clone()]).collect()
 }
 
-// Suite: offsets in the file and far past it.
+// Suite: asked in the file and far past it.
 
-/// The longest file whose every offset is asked for.
+/// The longest file that is asked at each of its bytes.
 const LONGEST_ASKED_FILE: usize = 8;
-/// How far past the end of a file the near offsets go.
+/// How far past the end of a file the near bytes go.
 const NEAR_PAST_END: usize = 3;
-/// Places at which a narrower or a signed number would turn over.
-const TURNING_OFFSETS: [u64; 5] = [1 << 8, 1 << 16, 1 << 31, 1 << 32, 1 << 63];
-/// How far below and above a turning offset the far offsets go: so far that an
-/// offset turned over would fall on every byte of the file.
+/// Bytes at which a narrower or a signed number would turn over.
+const TURNING_BYTES: [u64; 5] = [1 << 8, 1 << 16, 1 << 31, 1 << 32, 1 << 63];
+/// How far below and above a turning byte the far bytes go: so far that one turned over would
+/// fall on every byte of the file.
 const AROUND_A_TURN: u64 = LONGEST_ASKED_FILE as u64;
 /// Bytes repeated to fill a file, so that every answer is met.
 const REPEATED: [&[u8]; 10] = [
@@ -188,46 +192,73 @@ const REPEATED: [&[u8]; 10] = [
 /// How many seeded files of each length are asked besides.
 const SEEDED_FILES: usize = 200;
 /// The seed of those files.
-const SEED_OF_OFFSETS: u64 = 0x5EED_0001;
+const SEED_OF_FILES: u64 = 0x5EED_0001;
 
-/// Far offsets are asked of the repeated bytes only: no byte of the file should
+/// Far bytes are asked of the repeated bytes only: no byte of the file should
 /// matter there, and these show it if one does.
-fn offsets_near_and_far() -> Vec<NumberAt> {
-    let mut seeded = Seeded::new(SEED_OF_OFFSETS);
+fn asked_near_and_far() -> Vec<NumberAt> {
+    let mut seeded = Seeded::new(SEED_OF_FILES);
     let mut cases = Vec::new();
     for length in 0..=LONGEST_ASKED_FILE {
         for run in REPEATED {
-            let file: Vec<u8> = run.iter().copied().cycle().take(length).collect();
-            cases.extend(asked_at_each(&file, near_offsets(length)));
-            cases.extend(asked_at_each(&file, far_offsets()));
+            let file = repeated(run, length);
+            cases.extend(asked_at_each(&file, near_bytes(length)));
+            cases.extend(asked_at_each(&file, far_bytes()));
         }
         for _ in 0..SEEDED_FILES {
             let file = seeded_bytes(&mut seeded, length);
-            cases.extend(asked_at_each(&file, near_offsets(length)));
+            cases.extend(asked_at_each(&file, near_bytes(length)));
         }
     }
     cases
 }
 
-/// The cases that ask at each of the offsets of one file.
-fn asked_at_each(file: &[u8], offsets: impl Iterator<Item = u64>) -> Vec<NumberAt> {
-    let asked_at = |offset| NumberAt {
-        file: file.to_vec(),
-        offset,
-    };
-    offsets.map(asked_at).collect()
+/// A file of `length` bytes in which the run comes again and again.
+fn repeated(run: &[u8], length: usize) -> Vec<u8> {
+    run.iter().copied().cycle().take(length).collect()
 }
 
-/// Every offset of a file, its end, and some offsets past it.
-fn near_offsets(length: usize) -> impl Iterator<Item = u64> {
+/// The cases that ask at each of the bytes of one file.
+fn asked_at_each(file: &[u8], bytes: impl Iterator<Item = u64>) -> Vec<NumberAt> {
+    let asked_at = |byte| NumberAt {
+        file: file.to_vec(),
+        byte,
+    };
+    bytes.map(asked_at).collect()
+}
+
+/// Every byte of a file, its end, and some bytes past it.
+fn near_bytes(length: usize) -> impl Iterator<Item = u64> {
     0..=(length + NEAR_PAST_END) as u64
 }
 
-/// The offsets around each turn, and the last of all 64-bit numbers.
-fn far_offsets() -> impl Iterator<Item = u64> {
-    let turns = TURNING_OFFSETS.into_iter();
+/// The bytes around each turn, and the last of all 64-bit numbers.
+fn far_bytes() -> impl Iterator<Item = u64> {
+    let turns = TURNING_BYTES.into_iter();
     let around_turns = turns.flat_map(|turn| turn - AROUND_A_TURN..=turn + AROUND_A_TURN);
     around_turns.chain(u64::MAX - AROUND_A_TURN..=u64::MAX)
+}
+
+// Suite: long files asked around their ends and past them.
+
+/// Lengths around those at which a narrower number would turn over or a number gets another
+/// group, and a longer one.
+const LENGTHS_OF_LONG_FILES: [usize; 7] = [127, 128, 129, 255, 256, 257, 1000];
+/// How many bytes before the end of a long file are asked.
+const NEAR_BEFORE_END: usize = 20;
+
+/// The length, which goes with every byte past the end, is not a small number here.
+fn long_files_asked_at_ends() -> Vec<NumberAt> {
+    let mut cases = Vec::new();
+    for length in LENGTHS_OF_LONG_FILES {
+        for run in REPEATED {
+            let file = repeated(run, length);
+            let near = near_bytes(length).skip(length - NEAR_BEFORE_END);
+            let far = TURNING_BYTES.into_iter().chain([u64::MAX]);
+            cases.extend(asked_at_each(&file, near.chain(far)));
+        }
+    }
+    cases
 }
 
 // Suite: seeded whole and damaged.
@@ -242,8 +273,8 @@ const LONGEST_FILE: usize = 40;
 const LONGEST_LONG_FILE: usize = 4_000;
 /// One case in this many has a long file.
 const CASES_TO_A_LONG_ONE: usize = 500;
-/// One case in this many asks at any offset, the others where the number starts.
-const CASES_TO_ANY_OFFSET: usize = 5;
+/// One case in this many asks at any byte, the others where the number starts.
+const CASES_TO_ANY_BYTE: usize = 5;
 /// One seeded byte in this many is an edge byte, the others are any byte.
 const BYTES_TO_AN_EDGE: usize = 4;
 
@@ -292,14 +323,14 @@ fn seeded_case(seeded: &mut Seeded) -> NumberAt {
     let hit = start + seeded.up_to(number.len() - 1);
     damage(&mut file, hit, seeded);
 
-    let offset = if seeded.one_in(CASES_TO_ANY_OFFSET) {
+    let byte = if seeded.one_in(CASES_TO_ANY_BYTE) {
         seeded.up_to(file.len())
     } else {
         start
     };
     NumberAt {
         file,
-        offset: offset as u64,
+        byte: byte as u64,
     }
 }
 
@@ -353,11 +384,47 @@ mod tests {
     #[test]
     fn what_reads_in_any_case_is_the_written_form() {
         for Suite { name, cases, .. } in number_suites() {
-            for NumberAt { file, offset } in cases {
-                if let Reading::Number { value, next } = read_number(&file, offset) {
+            for NumberAt { file, byte } in cases {
+                if let Reading::Number {
+                    value,
+                    offset,
+                    next,
+                } = read_number(&file, byte)
+                {
                     let bytes = &file[offset as usize..next as usize];
                     assert_eq!(write_number(value), bytes, "{name}");
+                    assert_eq!(offset, byte, "{name}");
                 }
+            }
+        }
+    }
+
+    #[test]
+    fn fault_has_the_asked_byte_as_its_offset_if_the_file_has_it() {
+        for NumberAt { file, byte } in number_suites().into_iter().flat_map(|suite| suite.cases) {
+            if let Reading::Refused { offset, .. } = read_number(&file, byte) {
+                let length = file.len() as u64;
+                assert_eq!(offset, if byte < length { byte } else { length });
+            }
+        }
+    }
+
+    #[test]
+    fn long_files_are_asked_at_their_ends_and_far_past_them() {
+        let cases = long_files_asked_at_ends();
+        for length in LENGTHS_OF_LONG_FILES {
+            let of_length = cases.iter().filter(|case| case.file.len() == length);
+            let asked: BTreeSet<u64> = of_length.map(|case| case.byte).collect();
+            let length = length as u64;
+            for byte in [
+                length - 20,
+                length - 1,
+                length,
+                length + 3,
+                1 << 32,
+                u64::MAX,
+            ] {
+                assert!(asked.contains(&byte), "{byte} of {length}");
             }
         }
     }

@@ -2,10 +2,10 @@
 
 use super::emissions::emissions_of;
 use super::flow::flow_of;
-use super::reading::read_period;
+use super::reading::read_numbers;
 use super::records::Period;
 use super::rows::{PlantRow, Rows, SegmentRow};
-use crate::refusal::{Reason, Refused};
+use crate::refusal::{Placed, Reason, Refused};
 
 /// How many numbers the two tables of the caller hold.
 #[derive(Clone, Copy, Debug, PartialEq, Eq)]
@@ -30,7 +30,7 @@ impl Tables {
     }
 
     /// Tests that the rows of the period fit: refusals 14 and 15.
-    fn check(self, period: &Period) -> Result<(), Refused> {
+    fn check(self, period: &Period) -> Result<(), Placed> {
         let needed = Tables::just_for(period.plants.len(), period.segments.len());
         if self.plant < needed.plant {
             return Err(Reason::PlantTableShort.at(needed.plant));
@@ -42,12 +42,20 @@ impl Tables {
     }
 }
 
-/// The rows of the period that the file holds, or the first refusal.
+/// The rows of the period that the file holds, or the first refusal. A line is found by its first
+/// byte; segments and tables have no byte of their own, and the whole file was read by then.
 pub fn account(file: &[u8], tables: Tables) -> Result<Rows, Refused> {
-    let period = read_period(file)?;
-    let emissions = emissions_of(&period)?;
-    let flow = flow_of(&period, &emissions.segments)?;
-    tables.check(&period)?;
+    let numbers = read_numbers(file)?;
+    let period = Period::from_numbers(numbers.numbers());
+    let at_line = |refused: Placed| {
+        let first_number = period.place_of_line(refused.place);
+        refused.with_offset(numbers.offset_of(first_number))
+    };
+    let behind_all = |refused: Placed| refused.with_offset(file.len() as u64);
+
+    let emissions = emissions_of(&period).map_err(at_line)?;
+    let flow = flow_of(&period, &emissions.segments).map_err(behind_all)?;
+    tables.check(&period).map_err(behind_all)?;
     Ok(Rows::new(&period, &emissions, &flow))
 }
 
@@ -102,51 +110,62 @@ mod tests {
     fn bytes_after_come_before_grams() {
         let numbers = with_values(&WHOLE_PERIOD, &GRAMS_PAST_LIMIT);
         let file = [write_numbers(&numbers), vec![0]].concat();
-        assert_eq!(refused(&file, EMPTY_TABLES), "R 9 26");
+        assert_eq!(refused(&file, EMPTY_TABLES), "R 9 26 40");
     }
 
     #[test]
     fn grams_come_before_flow() {
         assert_eq!(
             refused_with(&[&OUTFLOW_OVER_INFLOW, &GRAMS_PAST_LIMIT]),
-            "R 10 1"
+            "R 10 1 24"
         );
         assert_eq!(
             refused_with(&[&NOTHING_EXPORTED, &GRAMS_PAST_LIMIT]),
-            "R 10 1"
+            "R 10 1 20"
         );
     }
 
     #[test]
     fn outflow_comes_before_emission_at_a_segment() {
         let one_kg_out: [(usize, u64); 1] = [(11, 1)];
-        assert_eq!(refused_with(&[&NOTHING_EXPORTED, &one_kg_out]), "R 12 1");
+        assert_eq!(refused_with(&[&NOTHING_EXPORTED, &one_kg_out]), "R 12 1 33");
         let one_kg_out_later: [(usize, u64); 1] = [(14, 1)];
         assert_eq!(
             refused_with(&[&NOTHING_EXPORTED, &one_kg_out_later]),
-            "R 13 1"
+            "R 13 1 33"
         );
     }
 
     #[test]
     fn flow_comes_before_tables() {
-        assert_eq!(refused_with(&[&OUTFLOW_OVER_INFLOW]), "R 12 1");
-        assert_eq!(refused_with(&[&NOTHING_EXPORTED]), "R 13 1");
+        assert_eq!(refused_with(&[&OUTFLOW_OVER_INFLOW]), "R 12 1 37");
+        assert_eq!(refused_with(&[&NOTHING_EXPORTED]), "R 13 1 33");
+    }
+
+    #[test]
+    fn line_has_its_first_byte_whatever_is_behind_it() {
+        let second_past_limit: [(usize, u64); 2] = [(24, 4_000_000_000), (25, 1001)];
+        let long_line_before: [(usize, u64); 2] = [(19, 1_000_000_000), (20, 4000)];
+        assert_eq!(refused_with(&[&second_past_limit]), "R 10 2 31");
+        assert_eq!(
+            refused_with(&[&second_past_limit, &long_line_before]),
+            "R 10 2 34"
+        );
     }
 
     #[test]
     fn plant_table_comes_before_segment_table() {
         let enough = Tables::just_for(2, 2);
-        assert_eq!(refused(&whole_period(), EMPTY_TABLES), "R 14 16");
+        assert_eq!(refused(&whole_period(), EMPTY_TABLES), "R 14 16 37");
         let plant_short = Tables {
             plant: 15,
             ..enough
         };
-        assert_eq!(refused(&whole_period(), plant_short), "R 14 16");
+        assert_eq!(refused(&whole_period(), plant_short), "R 14 16 37");
         let segment_short = Tables {
             segment: 9,
             ..enough
         };
-        assert_eq!(refused(&whole_period(), segment_short), "R 15 10");
+        assert_eq!(refused(&whole_period(), segment_short), "R 15 10 37");
     }
 }

@@ -53,6 +53,6 @@ mod tests {
             line_of(&one_plant_one_store, Tables::just_for(1, 1)),
             "8 5 01010100000100060000 A 0 0 0 0 0 0 0 0 | 0 0 0 0 1"
         );
-        assert_eq!(line_of(&[], Tables::just_for(2, 0)), "16 0 - R 1 0");
+        assert_eq!(line_of(&[], Tables::just_for(2, 0)), "16 0 - R 1 0 0");
     }
 }

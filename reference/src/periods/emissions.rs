@@ -1,7 +1,7 @@
 //! Emissions of the owners in kg: refusal 10.
 
 use super::records::{Owner, Period};
-use crate::refusal::{Reason, Refused};
+use crate::refusal::{Placed, Reason};
 
 /// The most grams an owner's lines may add up to.
 pub const LARGEST_GRAM_TOTAL: u64 = 4_000_000_000_000;
@@ -16,7 +16,7 @@ pub struct Emissions {
 }
 
 /// Adds the lines of each owner in file order; the total is rounded up once.
-pub fn emissions_of(period: &Period) -> Result<Emissions, Refused> {
+pub fn emissions_of(period: &Period) -> Result<Emissions, Placed> {
     let mut plants = vec![0; period.plants.len()];
     let mut segments = vec![0; period.segments.len()];
     for (index, line) in period.lines.iter().enumerate() {
@@ -49,7 +49,7 @@ mod tests {
     use crate::periods::records::Line;
 
     /// The emissions of two plants and two segments with lines of owner, quantity and factor.
-    fn emissions_with(lines: &[(Owner, u64, u64)]) -> Result<Emissions, Refused> {
+    fn emissions_with(lines: &[(Owner, u64, u64)]) -> Result<Emissions, Placed> {
         let mut period = Period::from_numbers(&WHOLE_PERIOD);
         let line = |&(owner, quantity, factor)| Line {
             owner,
@@ -61,7 +61,7 @@ mod tests {
         emissions_of(&period)
     }
 
-    fn kg(plants: [u64; 2], segments: [u64; 2]) -> Result<Emissions, Refused> {
+    fn kg(plants: [u64; 2], segments: [u64; 2]) -> Result<Emissions, Placed> {
         Ok(Emissions {
             plants: plants.to_vec(),
             segments: segments.to_vec(),

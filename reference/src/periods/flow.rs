@@ -2,7 +2,7 @@
 
 use super::records::{Period, Segment};
 use crate::numbers::number::LIMIT;
-use crate::refusal::{Reason, Refused};
+use crate::refusal::{Placed, Reason};
 use std::collections::BTreeMap;
 
 /// Amounts of plants in kg by the number of the plant, in rising number.
@@ -20,7 +20,7 @@ pub struct Flow {
 }
 
 /// Works the segments in rising number, with the emissions of each.
-pub fn flow_of(period: &Period, emissions: &[u64]) -> Result<Flow, Refused> {
+pub fn flow_of(period: &Period, emissions: &[u64]) -> Result<Flow, Placed> {
     let mut flow = Flow {
         entering: exports_entering(period),
         stored: vec![0; period.plants.len()],
@@ -137,7 +137,7 @@ mod tests {
     }
 
     /// The flow of a file without lines, or with these emissions of the segments.
-    fn flow(numbers: &[u64], emissions: &[u64]) -> Result<Flow, Refused> {
+    fn flow(numbers: &[u64], emissions: &[u64]) -> Result<Flow, Placed> {
         flow_of(&Period::from_numbers(numbers), emissions)
     }
 

@@ -8,6 +8,7 @@ mod fields;
 mod flow;
 pub mod historian;
 pub mod inspection;
+mod lengths;
 mod outflows;
 mod paper;
 pub mod printed;

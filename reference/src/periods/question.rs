@@ -2,7 +2,7 @@
 
 use super::reading::read_period;
 use crate::answer_line::AnswerLine;
-use crate::asked_file::{AskedFile, Kind, NO_OFFSET};
+use crate::asked_file::{AskedFile, Kind, NO_BYTE};
 use crate::frames::FrameFault;
 use crate::questions::{hex, spaced, Question};
 
@@ -18,7 +18,7 @@ impl Question for PeriodFile {
 
     fn write_frame(&self, frames: &mut Vec<u8>) {
         let asked = AskedFile {
-            offset: NO_OFFSET,
+            byte: NO_BYTE,
             file: &self.0,
         };
         asked.write_frame(Kind::Period, frames);
@@ -53,7 +53,7 @@ mod tests {
             "A 1 2 2 2 10000 1 1000000 5001 1 900000 1 14900 2 6 14899 0 \
              0 1 4 2000 350 1 1 3 101 2650\n"
         );
-        assert_eq!(PeriodFile(vec![0x01]).answer().0, "R 1 1\n");
+        assert_eq!(PeriodFile(vec![0x01]).answer().0, "R 1 1 1\n");
     }
 
     #[test]

@@ -5,15 +5,21 @@ use super::records::Period;
 use crate::numbers::in_order::NumbersInOrder;
 use crate::refusal::Refused;
 
-/// Reads the file front to back, each number tested for itself and for its
-/// field before the next one is read.
+/// The period that is the whole of the file.
 pub fn read_period(file: &[u8]) -> Result<Period, Refused> {
+    let numbers = read_numbers(file)?;
+    Ok(Period::from_numbers(numbers.numbers()))
+}
+
+/// Reads the numbers of a period front to back, each tested for itself and for its
+/// field before the next one is read.
+pub fn read_numbers(file: &[u8]) -> Result<NumbersInOrder<'_>, Refused> {
     let mut numbers = NumbersInOrder::of(file);
     while let Some(field) = field_after(numbers.numbers()) {
         numbers.read_within(&field.allowed, field.reason)?;
     }
     numbers.end()?;
-    Ok(Period::from_numbers(numbers.numbers()))
+    Ok(numbers)
 }
 
 #[cfg(test)]
@@ -48,75 +54,78 @@ mod tests {
     fn file_that_ends_is_refused_at_the_number_that_is_missing() {
         for place in 0..WHOLE_PERIOD.len() {
             let before = write_numbers(&WHOLE_PERIOD[..place]);
-            assert_eq!(refused(&before), format!("R 1 {place}"));
+            let expected = format!("R 1 {place} {}", before.len());
+            assert_eq!(refused(&before), expected);
             let cut_inside = [&before[..], &[0x80]].concat();
-            assert_eq!(refused(&cut_inside), format!("R 1 {place}"));
+            assert_eq!(refused(&cut_inside), expected);
         }
     }
 
     #[test]
     fn number_at_fault_is_refused_at_its_place() {
         for (place, &value) in WHOLE_PERIOD.iter().enumerate() {
+            let byte = write_numbers(&WHOLE_PERIOD[..place]).len();
             let own = write_number(value);
             let longer = padded(&own, own.len() + 1);
             let file = write_with_form(&WHOLE_PERIOD, place, &longer);
-            assert_eq!(refused(&file), format!("R 2 {place}"));
+            assert_eq!(refused(&file), format!("R 2 {place} {byte}"));
+            let too_large = format!("R 3 {place} {byte}");
             let file = write_with_form(&WHOLE_PERIOD, place, &[0x80; MOST_GROUPS]);
-            assert_eq!(refused(&file), format!("R 3 {place}"));
-            assert_eq!(refused_with(place, LIMIT + 1), format!("R 3 {place}"));
+            assert_eq!(refused(&file), too_large);
+            assert_eq!(refused_with(place, LIMIT + 1), too_large);
         }
     }
 
     #[test]
     fn header_is_tested_field_by_field() {
-        assert_eq!(refused_with(0, 0), "R 4 0");
-        assert_eq!(refused_with(0, 2), "R 4 0");
-        assert_eq!(refused_with(1, 0), "R 5 1");
-        assert_eq!(refused_with(1, 17), "R 5 1");
-        assert_eq!(refused_with(2, 0), "R 5 2");
-        assert_eq!(refused_with(2, 33), "R 5 2");
-        assert_eq!(refused_with(3, 513), "R 5 3");
+        assert_eq!(refused_with(0, 0), "R 4 0 0");
+        assert_eq!(refused_with(0, 2), "R 4 0 0");
+        assert_eq!(refused_with(1, 0), "R 5 1 1");
+        assert_eq!(refused_with(1, 17), "R 5 1 1");
+        assert_eq!(refused_with(2, 0), "R 5 2 2");
+        assert_eq!(refused_with(2, 33), "R 5 2 2");
+        assert_eq!(refused_with(3, 513), "R 5 3 3");
     }
 
     #[test]
     fn plant_is_tested_field_by_field() {
         assert_eq!(refused_with(4, LIMIT), "accepted");
-        assert_eq!(refused_with(5, 0), "R 6 5");
+        assert_eq!(refused_with(5, 0), "R 6 5 6");
         assert_eq!(refused_with(5, 2), "accepted");
-        assert_eq!(refused_with(5, 3), "R 6 5");
+        assert_eq!(refused_with(5, 3), "R 6 5 6");
         assert_eq!(refused_with(9, 1_000_000), "accepted");
-        assert_eq!(refused_with(9, 1_000_001), "R 6 9");
+        assert_eq!(refused_with(9, 1_000_001), "R 6 9 13");
     }
 
     #[test]
     fn segment_is_tested_field_by_field() {
-        assert_eq!(refused_with(10, 0), "R 7 10");
+        assert_eq!(refused_with(10, 0), "R 7 10 16");
         assert_eq!(refused_with(10, 5), "accepted");
-        assert_eq!(refused_with(10, 7), "R 7 10");
+        assert_eq!(refused_with(10, 7), "R 7 10 16");
         assert_eq!(refused_with(11, LIMIT), "accepted");
-        assert_eq!(refused_with(12, 0), "R 7 12", "a pipeline leads on");
-        assert_eq!(refused_with(12, 1), "R 7 12", "not to itself");
-        assert_eq!(refused_with(12, 3), "R 7 12", "not past the last");
-        assert_eq!(refused_with(10, 6), "R 7 12", "a store leads nowhere");
-        assert_eq!(refused_with(13, 5), "R 7 15", "the last is a store");
-        assert_eq!(refused_with(15, 1), "R 7 15");
+        assert_eq!(refused_with(12, 0), "R 7 12 19", "a pipeline leads on");
+        assert_eq!(refused_with(12, 1), "R 7 12 19", "not to itself");
+        assert_eq!(refused_with(12, 3), "R 7 12 19", "not past the last");
+        assert_eq!(refused_with(10, 6), "R 7 12 19", "a store leads nowhere");
+        assert_eq!(refused_with(13, 5), "R 7 15 23", "the last is a store");
+        assert_eq!(refused_with(15, 1), "R 7 15 23");
     }
 
     #[test]
     fn line_is_tested_field_by_field() {
-        assert_eq!(refused_with(16, 2), "R 8 16");
-        assert_eq!(refused_with(17, 0), "R 8 17");
-        assert_eq!(refused_with(17, 3), "R 8 17");
-        assert_eq!(refused_with(18, 0), "R 8 18");
+        assert_eq!(refused_with(16, 2), "R 8 16 24");
+        assert_eq!(refused_with(17, 0), "R 8 17 25");
+        assert_eq!(refused_with(17, 3), "R 8 17 25");
+        assert_eq!(refused_with(18, 0), "R 8 18 26");
         assert_eq!(refused_with(18, 8), "accepted");
-        assert_eq!(refused_with(18, 9), "R 8 18");
+        assert_eq!(refused_with(18, 9), "R 8 18 26");
         assert_eq!(refused_with(19, LIMIT), "accepted");
         assert_eq!(refused_with(20, 1_000_000_000), "accepted");
-        assert_eq!(refused_with(20, 1_000_000_001), "R 8 20");
+        assert_eq!(refused_with(20, 1_000_000_001), "R 8 20 29");
         for class in [0, 1, 2, 8] {
             assert_eq!(
                 refused_with(23, class),
-                "R 8 23",
+                "R 8 23 33",
                 "a segment's class {class}"
             );
         }
@@ -134,18 +143,18 @@ mod tests {
 
     #[test]
     fn field_is_tested_before_the_next_number_is_read() {
-        assert_eq!(refused(&[0x02]), "R 4 0");
-        assert_eq!(refused(&[0x01, 0x00, 0x80, 0x00]), "R 5 1");
+        assert_eq!(refused(&[0x02]), "R 4 0 0");
+        assert_eq!(refused(&[0x01, 0x00, 0x80, 0x00]), "R 5 1 1");
         let mut file = write_numbers(&WHOLE_PERIOD[..5]);
         file.push(0);
-        assert_eq!(refused(&file), "R 6 5");
+        assert_eq!(refused(&file), "R 6 5 6");
     }
 
     #[test]
     fn bytes_behind_the_last_number_need_not_be_a_number() {
         for after in [&[0x00][..], &[0x80], &[0x80, 0x00], &[0xFF; 6]] {
             let file = [&whole_period(), after].concat();
-            assert_eq!(refused(&file), "R 9 26");
+            assert_eq!(refused(&file), "R 9 26 37");
         }
     }
 }

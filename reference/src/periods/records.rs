@@ -202,6 +202,13 @@ impl Period {
         }
     }
 
+    /// The place that the first number of a line has in the file.
+    pub fn place_of_line(&self, line: usize) -> usize {
+        let plants = self.plants.len() * Plant::NUMBERS;
+        let segments = self.segments.len() * Segment::NUMBERS;
+        HEADER_NUMBERS + plants + segments + (line - 1) * Line::NUMBERS
+    }
+
     /// All numbers of the file in its order.
     pub fn numbers(&self) -> Vec<u64> {
         let counts = [self.plants.len(), self.segments.len(), self.lines.len()];
@@ -250,6 +257,15 @@ mod tests {
     #[test]
     fn numbers_of_the_records_are_those_of_the_file() {
         assert_eq!(Period::from_numbers(&WHOLE_PERIOD).numbers(), WHOLE_PERIOD);
+    }
+
+    #[test]
+    fn lines_start_behind_plants_and_segments() {
+        let mut period = Period::from_numbers(&WHOLE_PERIOD);
+        assert_eq!(period.place_of_line(1), 16);
+        assert_eq!(period.place_of_line(2), 21);
+        period.plants.pop();
+        assert_eq!(period.place_of_line(2), 18);
     }
 
     #[test]

@@ -34,7 +34,7 @@ mod tests {
         let line_of = |file: &[u8]| SheetCase(file.to_vec()).to_string();
         assert_eq!(line_of(&[3, 0xAC, 0x02, 9, 9]), "03AC020909 A 318 1 0 2 2");
         assert_eq!(line_of(&[1, 0]), "0100 A 0 0 0 0 0");
-        assert_eq!(line_of(&[]), "- R 1 0");
-        assert_eq!(line_of(&[0x01, 0x05, 0x80]), "010580 R 9 2");
+        assert_eq!(line_of(&[]), "- R 1 0 0");
+        assert_eq!(line_of(&[0x01, 0x05, 0x80]), "010580 R 9 2 2");
     }
 }

@@ -13,6 +13,7 @@ use super::account_limits::{
 };
 use super::accounts::Tables;
 use super::case::PeriodCase;
+use super::lengths::refused_cases;
 use super::paper::proved_cases;
 use super::records::Period;
 use crate::numbers::writing::write_numbers;
@@ -39,6 +40,10 @@ pub fn historian_suites() -> Vec<Suite<HistorianCall>> {
         Suite::new(
             "historian, full-size files with tables of all lengths",
             table_lengths::of_full_size_files(),
+        ),
+        Suite::new(
+            "historian, refused behind numbers of every length",
+            calls_of_every_length(),
         ),
         full_size(
             "historian, inflow at and past its limit",
@@ -91,6 +96,11 @@ fn calls_of_paper() -> Vec<HistorianCall> {
     proved_cases().into_iter().map(HistorianCall::of).collect()
 }
 
+/// Every refusal of periods with numbers of every length.
+fn calls_of_every_length() -> Vec<HistorianCall> {
+    refused_cases().into_iter().map(HistorianCall::of).collect()
+}
+
 /// A suite of whole periods, their tables just enough.
 fn full_size(name: &'static str, periods: &[Period]) -> Suite<HistorianCall> {
     let call_of = |period: &Period| {
@@ -109,7 +119,7 @@ mod tests {
     use crate::questions::Question;
 
     /// The answers that each suite must meet, and how often at least.
-    const MET: [(&[&str], usize); 14] = [
+    const MET: [(&[&str], usize); 15] = [
         (
             &[
                 "A", "R1", "R2", "R3", "R4", "R5", "R7", "R9", "R10", "R12", "R13", "R14",
@@ -124,6 +134,13 @@ mod tests {
             100,
         ),
         (HistorianCall::LABELS, 60),
+        (
+            &[
+                "R1", "R2", "R3", "R4", "R5", "R6", "R7", "R8", "R9", "R10", "R11", "R12", "R13",
+                "R14", "R15",
+            ],
+            15,
+        ),
         (&["A", "R11"], 100),
         (&["A", "R10"], 100),
         (&["A"], 50),

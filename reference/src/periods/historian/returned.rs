@@ -1,4 +1,5 @@
-//! What a call leaves with the historian: the refusal and the place, then all bytes of both tables.
+//! What a call leaves with the historian: the refusal, its place and its offset, then all bytes of
+//! both tables.
 
 use super::table_bytes::{TableBytes, NUMBER_BYTES};
 use crate::frames::split;
@@ -171,7 +172,7 @@ mod tests {
     fn refused_file_writes_nothing() {
         for (plant, segment, refusal, place) in [(63, 40, 14, 8), (64, 39, 15, 5), (0, 0, 14, 8)] {
             let returned = left_by(&SMALLEST, plant, segment);
-            let verdict = format!("refusal {refusal} and place {place}");
+            let verdict = format!("refusal {refusal}, place {place} and offset 10");
             assert_eq!(returned.verdict.to_string(), verdict);
             assert_eq!(returned.plant_table, PLANT_PATTERN.table(plant));
             assert_eq!(returned.segment_table, SEGMENT_PATTERN.table(segment));
@@ -179,15 +180,20 @@ mod tests {
     }
 
     #[test]
-    fn answer_is_refusal_place_and_both_tables() {
-        let returned = left_by(&[0x01], 2, 1);
-        assert_eq!(
-            returned.bytes(),
-            [1, 0, 0, 0, 1, 0, 0, 0, 0, 0, 0, 0, 90, 107, 165]
-        );
-        assert_eq!(returned.length_in(&[0; 20]), 15);
-        assert_eq!(returned.length_in(&[0; 14]), 14);
-        assert_eq!(returned.label(), "R1");
+    fn answer_is_refusal_place_offset_and_both_tables() {
+        // Plant 1 exports 300 kg, in two bytes, and starts at no segment.
+        let returned = left_by(&[1, 1, 1, 0, 0xAC, 0x02, 0], 2, 1);
+        let expected = [
+            &[6, 0, 0, 0][..],
+            &[5, 0, 0, 0, 0, 0, 0, 0],
+            &[6, 0, 0, 0, 0, 0, 0, 0],
+            &[90, 107],
+            &[165],
+        ];
+        assert_eq!(returned.bytes(), expected.concat());
+        assert_eq!(returned.length_in(&[0; 30]), 23);
+        assert_eq!(returned.length_in(&[0; 22]), 22);
+        assert_eq!(returned.label(), "R6");
         let accepted = left_by(&whole_period(), 128, 80);
         assert_eq!(accepted.label(), "A");
     }
@@ -199,23 +205,23 @@ mod tests {
         came[0] = 2;
         assert_eq!(
             returned.difference(&came),
-            "expected refusal 1 and place 1, came refusal 2 and place 1"
+            "expected refusal 1, place 1 and offset 1, came refusal 2, place 1 and offset 1"
         );
         came[0] = 1;
-        came[13] = 0;
-        came[14] = 0xFF;
+        came[21] = 0;
+        came[22] = 0xFF;
         assert_eq!(
             returned.difference(&came),
             "plant table first differs at byte 1: expected 6B, came 00; \
              segment table first differs at byte 0: expected A5, came FF"
         );
         assert_eq!(
-            returned.difference(&came[..14]),
-            "expected refusal 1 and place 1, came only 14 of 15 bytes"
+            returned.difference(&came[..22]),
+            "expected refusal 1, place 1 and offset 1, came only 22 of 23 bytes"
         );
         assert_eq!(
             returned.difference(&[]),
-            "expected refusal 1 and place 1, came no answer"
+            "expected refusal 1, place 1 and offset 1, came no answer"
         );
     }
 }

@@ -104,8 +104,9 @@ mod tests {
         for file in bytes_after() {
             let page = inspect(&file).to_string();
             assert!(page.contains("\n26 37 "), "{page}");
-            assert!(page.contains(" after the last number\n"), "{page}");
-            assert!(page.contains("\nR 9 26\n"), "{page}");
+            assert!(page.contains(" after the last number"), "{page}");
+            assert!(page.contains("\nR 9 26 37\n"), "{page}");
+            assert_eq!(page.matches(" <--\n").count(), 1, "{page}");
         }
     }
 }

@@ -76,9 +76,10 @@ mod tests {
     /// How the page must close for this fault at this place.
     fn closing_for(fault: u8, place: usize) -> String {
         if place < WHOLE_PERIOD.len() {
-            format!("R {fault} {place}, F {fault} {place}")
+            let byte = write_numbers(&WHOLE_PERIOD[..place]).len();
+            format!("R {fault} {place} {byte}, F {fault} {place}")
         } else {
-            format!("R 9 26, F {fault} {place}")
+            format!("R 9 26 37, F {fault} {place}")
         }
     }
 
@@ -100,7 +101,7 @@ mod tests {
     #[test]
     fn each_fault_comes_behind_each_refused_field() {
         let mut expected = Vec::new();
-        for refusal in ["R 5 1", "R 6 5", "R 7 10", "R 8 17"] {
+        for refusal in ["R 5 1 1", "R 6 5 6", "R 7 10 16", "R 8 17 25"] {
             expected.extend([1, 2, 3].map(|fault| format!("{refusal}, F {fault} 24")));
         }
         let files = faults_behind_refused_fields();

@@ -126,31 +126,31 @@ mod tests {
         assert_eq!(
             closings(1, 16),
             [
-                "R 1 2, E 2 2",
-                "R 1 4, E 4 4",
-                "R 1 67, E 67 67",
-                "R 9 68, E 69 69",
+                "R 1 2 2, E 2 2",
+                "R 1 4 4, E 4 4",
+                "R 1 67 67, E 67 67",
+                "R 9 68 68, E 69 69",
                 "E 68 68",
             ]
         );
         assert_eq!(
             closings(1, 17),
             [
-                "R 5 1, E 2 2",
-                "R 5 1, E 4 4",
-                "R 5 1, F 1 25",
-                "R 5 1, E 27 38",
-                "R 5 1, E 26 37",
+                "R 5 1 1, E 2 2",
+                "R 5 1 1, E 4 4",
+                "R 5 1 1, F 1 25",
+                "R 5 1 1, E 27 38",
+                "R 5 1 1, E 26 37",
             ]
         );
         assert_eq!(
             closings(3, 513),
             [
-                "R 5 3, E 4 5",
-                "R 5 3, E 4 5",
-                "R 5 3, F 1 25",
-                "R 5 3, E 27 39",
-                "R 5 3, E 26 38",
+                "R 5 3 3, E 4 5",
+                "R 5 3 3, E 4 5",
+                "R 5 3 3, F 1 25",
+                "R 5 3 3, E 27 39",
+                "R 5 3 3, E 26 38",
             ]
         );
     }
@@ -158,10 +158,10 @@ mod tests {
     #[test]
     fn first_number_that_is_not_allowed_is_refused() {
         let closing_of = |places: &[usize]| closing(&write_numbers(&not_allowed_at(places)));
-        assert_eq!(closing_of(&[0, 1, 2, 3]), "R 4 0, E 26 38");
-        assert_eq!(closing_of(&[1, 2, 3]), "R 5 1, E 26 38");
-        assert_eq!(closing_of(&[2, 3]), "R 5 2, E 26 38");
-        assert_eq!(closing_of(&[3]), "R 5 3, E 26 38");
+        assert_eq!(closing_of(&[0, 1, 2, 3]), "R 4 0 0, E 26 38");
+        assert_eq!(closing_of(&[1, 2, 3]), "R 5 1 1, E 26 38");
+        assert_eq!(closing_of(&[2, 3]), "R 5 2 2, E 26 38");
+        assert_eq!(closing_of(&[3]), "R 5 3 3, E 26 38");
     }
 
     #[test]
@@ -177,10 +177,10 @@ mod tests {
         assert_eq!(
             closings,
             [
-                "R 4 0, F 1 5",
-                "R 4 0, F 2 5",
-                "R 4 0, F 3 5",
-                "R 4 0, F 3 5"
+                "R 4 0 0, F 1 5",
+                "R 4 0 0, F 2 5",
+                "R 4 0 0, F 3 5",
+                "R 4 0 0, F 3 5"
             ]
         );
     }

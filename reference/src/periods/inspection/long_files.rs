@@ -285,12 +285,21 @@ mod tests {
     fn files_are_refused_for_what_they_start_with() {
         let files = of_whole_numbers();
         let (behind_period, behind_header) = files.split_at(files.len() / 2);
-        assert_eq!(refusal_of_all(behind_period), "R 9 10");
-        assert_eq!(refusal_of_all(behind_header), "R 4 0");
-        assert_eq!(refusal_of_all(&with_number_around_cut()), "R 9 10");
-        assert_eq!(refusal_of_all(&with_fault_around_cut()), "R 9 10");
+        assert_eq!(refusal_of_all(behind_period), "R 9 10 10");
+        assert_eq!(refusal_of_all(behind_header), "R 4 0 0");
+        assert_eq!(refusal_of_all(&with_number_around_cut()), "R 9 10 10");
+        assert_eq!(refusal_of_all(&with_fault_around_cut()), "R 9 10 10");
         let others: Vec<String> = of_other_starts().chunks(1).map(refusal_of_all).collect();
-        assert_eq!(others, ["R 4 0", "R 4 0", "R 9 2708", "R 3 0", "R 9 10"]);
+        assert_eq!(
+            others,
+            [
+                "R 4 0 0",
+                "R 4 0 0",
+                "R 9 2708 7029",
+                "R 3 0 0",
+                "R 9 10 10"
+            ]
+        );
     }
 
     #[test]
@@ -303,10 +312,10 @@ mod tests {
         assert_eq!(
             closings,
             [
-                "R 5 1, C 65524 65535",
-                "R 6 5, C 65524 65535",
-                "R 7 10, C 65524 65535",
-                "R 8 17, C 65524 65535",
+                "R 5 1 1, C 65524 65535",
+                "R 6 5 6, C 65524 65535",
+                "R 7 10 16, C 65524 65535",
+                "R 8 17 25, C 65524 65535",
             ]
         );
     }

@@ -2,6 +2,8 @@
 //! ones, and each file means a start of the program, so there are not too many.
 
 mod accepted_files;
+mod behind_refusals;
+mod bytes_at_fault;
 mod damaged_bytes;
 mod faults;
 pub mod file;
@@ -12,6 +14,8 @@ pub mod page;
 mod refused_fields;
 mod values;
 
+use super::lengths::reading::refused_by_reading;
+use super::lengths::some_for_each_reason;
 use super::paper::proved_files;
 use super::suites::bytes::noise;
 use crate::questions::Suite;
@@ -19,6 +23,8 @@ use file::InspectedFile;
 
 /// One file in this many is asked of those of noise.
 const NOISES_TO_AN_ASKED_ONE: usize = 271;
+/// How many files with numbers of every length there are for each refusal.
+const LENGTHS_OF_EACH_REFUSAL: usize = 2;
 /// How often the long files must meet each end of a page at least.
 const EACH_END_AT_LEAST: usize = 5;
 
@@ -43,6 +49,18 @@ pub fn inspection_suites() -> Vec<Suite<InspectedFile>> {
             damaged_bytes::bytes_after(),
         ),
         suite("inspections, every fault at every place", faults::faults()),
+        suite(
+            "inspections, faults behind each field that is refused",
+            behind_refusals::faults_behind_each_field(),
+        ),
+        suite(
+            "inspections, bytes of numbers at fault",
+            bytes_at_fault::exports_at_fault(),
+        ),
+        suite(
+            "inspections, refused behind numbers of every length",
+            some_for_each_reason(refused_by_reading(), LENGTHS_OF_EACH_REFUSAL),
+        ),
         suite(
             "inspections, headers at their limits and past them",
             headers::headers(),
@@ -85,13 +103,16 @@ mod tests {
     use std::collections::BTreeSet;
 
     /// The ends of pages that each suite must meet, and how often at least.
-    const ENDS_MET: [(&[&str], usize); 10] = [
+    const ENDS_MET: [(&[&str], usize); 13] = [
         (&["F2", "F3", "E"], 1),
         (&["E"], 60),
         (&["F1", "E"], 10),
         (&["F1", "F2", "F3", "E"], 3),
         (&["F1", "F2", "F3", "E"], 1),
         (&["F1", "F2", "F3"], 50),
+        (&["F1", "F2", "F3"], 10),
+        (&["F1", "F2", "F3"], 4),
+        (&["F2", "F3", "E"], 2),
         (&["F1", "F2", "F3", "E"], 4),
         (&["E"], 60),
         (&["F1", "F2", "F3", "E"], 1),
@@ -99,13 +120,19 @@ mod tests {
     ];
 
     /// What reading must say of the files of each suite, and how often at least.
-    const READINGS_MET: [(&[&str], usize); 10] = [
+    const READINGS_MET: [(&[&str], usize); 13] = [
         (&["read", "R1", "R2", "R3", "R4", "R5", "R7", "R9"], 1),
         (&["read"], 60),
         (&["read", "R1"], 1),
         (InspectedFile::LABELS_BESIDES, 3),
         (&["R9"], 15),
         (&["R1", "R2", "R3", "R5", "R6", "R7", "R8", "R9"], 3),
+        (&["R4", "R5", "R6", "R7", "R8"], 2),
+        (&["R1", "R2", "R3"], 4),
+        (
+            &["R1", "R2", "R3", "R4", "R5", "R6", "R7", "R8", "R9"],
+            LENGTHS_OF_EACH_REFUSAL,
+        ),
         (&["read", "R1", "R4", "R5", "R9"], 10),
         (&["read", "R6", "R7", "R8"], 5),
         (&["R1", "R3", "R4", "R5", "R6", "R7", "R8", "R9"], 1),
@@ -158,6 +185,23 @@ mod tests {
         }
     }
 
+    /// The bytes in the lines of the page that are marked.
+    fn bytes_marked(page: &str) -> Vec<&str> {
+        let marked = page.lines().filter(|line| line.ends_with(" <--"));
+        marked.filter_map(|line| line.split(' ').nth(1)).collect()
+    }
+
+    #[test]
+    fn line_of_the_refused_number_is_marked_if_there_is_one() {
+        for InspectedFile(file) in inspection_suites().iter().flat_map(|suite| &suite.cases) {
+            let page = inspect(file);
+            let offset = page.refused.map(|refused| refused.offset);
+            let in_file = offset.filter(|&offset| offset < file.len() as u64);
+            let expected: Vec<String> = in_file.iter().map(u64::to_string).collect();
+            assert_eq!(bytes_marked(&page.to_string()), expected);
+        }
+    }
+
     /// A file that is read is walked to its end, and one with the refusal 1, 2 or 3 up to there.
     /// Past the other refusals the walk goes on, and can end in every way.
     #[test]
@@ -187,6 +231,6 @@ mod tests {
     fn files_are_few_enough_to_start_a_slow_program_for_each() {
         let suites = inspection_suites();
         let files: usize = suites.iter().map(|suite| suite.cases.len()).sum();
-        assert!((900..=1000).contains(&files), "{files}");
+        assert!((1000..=1150).contains(&files), "{files}");
     }
 }

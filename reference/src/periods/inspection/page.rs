@@ -1,9 +1,10 @@
-//! The inspector's page: a walk through a file number by number, whether the period's reading
-//! refuses the file, and how the walk ends.
+//! The inspector's page: a walk through a file number by number, whether and where the period's
+//! reading refuses the file, and how the walk ends.
 
 use super::named_field::NamedField;
-use crate::numbers::number::{read_number, Reading, Refusal};
+use crate::numbers::number::{bytes_of_number, read_number, Reading, Refusal};
 use crate::periods::reading::read_period;
+use crate::questions::hex;
 use crate::refusal::Refused;
 use std::fmt;
 
@@ -11,6 +12,8 @@ use std::fmt;
 pub const BUFFER_BYTES: usize = 65_535;
 /// Printed in place of the value of a number that has a fault.
 const NO_VALUE: &str = "-";
+/// Ends the line of the number at which reading refuses the file.
+const MARK: &str = " <--";
 
 /// One number that the walk came to.
 #[derive(Debug, PartialEq, Eq)]
@@ -18,9 +21,16 @@ struct Step {
     place: usize,
     /// The byte where the number starts.
     byte: u64,
-    /// Its value, nothing if it has a fault.
-    value: Option<u64>,
+    found: Found,
     field: NamedField,
+}
+
+/// What a number is found to be.
+#[derive(Debug, PartialEq, Eq)]
+enum Found {
+    Value(u64),
+    /// A number with a fault: those of its bytes that are there.
+    Fault(Vec<u8>),
 }
 
 /// How the walk ends.
@@ -66,29 +76,40 @@ fn walk(file: &[u8]) -> (Vec<Step>, End) {
     loop {
         let place = numbers.len();
         let field = NamedField::after(&numbers);
-        let step = |value| Step {
+        let step = |found| Step {
             place,
             byte,
-            value,
+            found,
             field,
         };
         match read_number(held, byte) {
-            Reading::Number { value, next } => {
-                steps.push(step(Some(value)));
+            Reading::Number { value, next, .. } => {
+                steps.push(step(Found::Value(value)));
                 numbers.push(value);
                 byte = next;
             }
-            Reading::Refused(Refusal::FileEnds) if is_cut => {
+            Reading::Refused {
+                refusal: Refusal::FileEnds,
+                ..
+            } if is_cut => {
                 return (steps, End::Cut { place, byte });
             }
-            Reading::Refused(Refusal::FileEnds) if byte == held.len() as u64 => {
+            Reading::Refused { .. } if byte == held.len() as u64 => {
                 return (steps, End::OfFile { place, byte });
             }
-            Reading::Refused(refusal) => {
-                steps.push(step(None));
+            Reading::Refused { refusal, .. } => {
+                let there = bytes_of_number(&held[byte as usize..]);
+                steps.push(step(Found::Fault(there.to_vec())));
                 return (steps, End::Fault { refusal, place });
             }
         }
+    }
+}
+
+impl Page {
+    /// True if the number that starts at this byte is the one at which reading refuses the file.
+    fn is_refused_at(&self, byte: u64) -> bool {
+        self.refused.map_or(false, |refused| refused.offset == byte)
     }
 }
 
@@ -97,9 +118,12 @@ impl fmt::Display for Step {
         let Step {
             place, byte, field, ..
         } = self;
-        match self.value {
-            Some(value) => write!(out, "{place} {byte} {value} {field}"),
-            None => write!(out, "{place} {byte} {NO_VALUE} {field}"),
+        match &self.found {
+            Found::Value(value) => write!(out, "{place} {byte} {value} {field}"),
+            Found::Fault(there) => {
+                let there = hex(there, " ");
+                write!(out, "{place} {byte} {NO_VALUE} {field}: {there}")
+            }
         }
     }
 }
@@ -117,7 +141,12 @@ impl fmt::Display for End {
 impl fmt::Display for Page {
     fn fmt(&self, out: &mut fmt::Formatter) -> fmt::Result {
         for step in &self.steps {
-            writeln!(out, "{step}")?;
+            let mark = if self.is_refused_at(step.byte) {
+                MARK
+            } else {
+                ""
+            };
+            writeln!(out, "{step}{mark}")?;
         }
         if let Some(refused) = &self.refused {
             writeln!(out, "{refused}")?;
@@ -209,25 +238,25 @@ mod tests {
 
     #[test]
     fn header_that_is_not_whole_ends_the_page() {
-        assert_eq!(page_of(&[]), "R 1 0\nE 0 0\n");
-        assert_eq!(page_of(&[0x80]), "0 0 - edition\nR 1 0\nF 1 0\n");
-        assert_eq!(page_of(&[0x01]), "0 0 1 edition\nR 1 1\nE 1 1\n");
-        assert_eq!(page_of(&[0x02]), "0 0 2 edition\nR 4 0\nE 1 1\n");
+        assert_eq!(page_of(&[]), "R 1 0 0\nE 0 0\n");
+        assert_eq!(page_of(&[0x80]), "0 0 - edition: 80 <--\nR 1 0 0\nF 1 0\n");
+        assert_eq!(page_of(&[0x01]), "0 0 1 edition\nR 1 1 1\nE 1 1\n");
+        assert_eq!(page_of(&[0x02]), "0 0 2 edition <--\nR 4 0 0\nE 1 1\n");
         assert_eq!(
             page_of(&[0x02, 0x00, 0xAC, 0x02]),
-            "0 0 2 edition\n1 1 0 plants\n2 2 300 segments\nR 4 0\nE 3 4\n"
+            "0 0 2 edition <--\n1 1 0 plants\n2 2 300 segments\nR 4 0 0\nE 3 4\n"
         );
         assert_eq!(
             page_of(&[0x01, 0x02, 0xAC]),
-            "0 0 1 edition\n1 1 2 plants\n2 2 - segments\nR 1 2\nF 1 2\n"
+            "0 0 1 edition\n1 1 2 plants\n2 2 - segments: AC <--\nR 1 2 2\nF 1 2\n"
         );
     }
 
     #[test]
     fn header_that_is_not_allowed_tells_nothing() {
         assert_eq!(
-            last_lines(&NOT_ALLOWED, 3),
-            ["3 3 0 lines", "R 4 0", "E 4 4"]
+            page_of(&NOT_ALLOWED),
+            "0 0 2 edition <--\n1 1 1 plants\n2 2 1 segments\n3 3 0 lines\nR 4 0 0\nE 4 4\n"
         );
         let numbers_behind = [&NOT_ALLOWED[..], &[0x07, 0xAC, 0x02]].concat();
         assert_eq!(
@@ -235,14 +264,14 @@ mod tests {
             [
                 "4 4 7 not told by the header",
                 "5 5 300 not told by the header",
-                "R 4 0",
+                "R 4 0 0",
                 "E 6 7",
             ]
         );
         let ends_inside = [&NOT_ALLOWED[..], &[0x07, 0xAC]].concat();
         assert_eq!(
             last_lines(&ends_inside, 3),
-            ["5 5 - not told by the header", "R 4 0", "F 1 5"]
+            ["5 5 - not told by the header: AC", "R 4 0 0", "F 1 5"]
         );
     }
 
@@ -253,35 +282,77 @@ mod tests {
             let byte = before.len();
             let page = page_of(&before);
             assert_eq!(page.lines().count(), place + 2, "no line for the number");
-            assert!(page.ends_with(&format!("R 1 {place}\nE {place} {byte}\n")));
+            assert_eq!(page.matches(MARK).count(), 0, "nothing to mark");
+            assert!(page.ends_with(&format!("R 1 {place} {byte}\nE {place} {byte}\n")));
 
             let page = page_of(&[&before[..], &[0x80]].concat());
             assert_eq!(page.lines().count(), place + 3);
             assert!(page.contains(&format!("{place} {byte} - ")));
-            assert!(page.ends_with(&format!("\nR 1 {place}\nF 1 {place}\n")));
+            assert!(page.ends_with(&format!(": 80 <--\nR 1 {place} {byte}\nF 1 {place}\n")));
         }
     }
 
     #[test]
-    fn faults_of_numbers_are_told_with_byte_and_field() {
+    fn faults_of_numbers_are_told_with_byte_field_and_bytes() {
         let before = write_numbers(&WHOLE_PERIOD[..6]);
         let last = |form: &[u8]| last_lines(&[&before[..], form, &[0x00; 9]].concat(), 3);
-        let line = "6 7 - plant 1 origin fraction";
-        assert_eq!(last(&[0x80, 0x00]), [line, "R 2 6", "F 2 6"]);
-        assert_eq!(last(&[MORE_FOLLOW; MOST_GROUPS]), [line, "R 3 6", "F 3 6"]);
-        assert_eq!(last(&write_number(LIMIT + 1)), [line, "R 3 6", "F 3 6"]);
-        assert_eq!(page_of(&[0x80, 0x00]), "0 0 - edition\nR 2 0\nF 2 0\n");
+        let line = |bytes| format!("6 7 - plant 1 origin fraction: {bytes} <--");
+        assert_eq!(last(&[0x80, 0x00]), [&line("80 00"), "R 2 6 7", "F 2 6"]);
+        assert_eq!(
+            last(&[MORE_FOLLOW; MOST_GROUPS]),
+            [&line("80 80 80 80 80"), "R 3 6 7", "F 3 6"]
+        );
+        assert_eq!(
+            last(&write_number(LIMIT + 1)),
+            [&line("81 D0 AC F3 0E"), "R 3 6 7", "F 3 6"]
+        );
+        assert_eq!(
+            page_of(&[0x80, 0x00]),
+            "0 0 - edition: 80 00 <--\nR 2 0 0\nF 2 0\n"
+        );
+    }
+
+    #[test]
+    fn number_at_fault_has_no_more_bytes_than_it_may_and_the_file_has() {
+        let line = |form: &[u8]| {
+            let file = [&[0x01, 0x01, 0x01, 0x00], form].concat();
+            let page = page_of(&file);
+            page.lines().nth(4).map(str::to_string)
+        };
+        for (form, shown) in [
+            (&[0xFF][..], "FF"),
+            (&[0xFF, 0x8A], "FF 8A"),
+            (&[0xFF, 0x8A, 0x90, 0xA0], "FF 8A 90 A0"),
+            (&[0xFF, 0x8A, 0x00, 0xA0], "FF 8A 00"),
+            (&[0xFF, 0x8A, 0x90, 0xA0, 0x00, 0x07], "FF 8A 90 A0 00"),
+            (&[0xFF, 0x8A, 0x90, 0xA0, 0xB0, 0x07], "FF 8A 90 A0 B0"),
+            (&[0xFF, 0x8A, 0x90, 0xA0, 0x7F, 0x07], "FF 8A 90 A0 7F"),
+        ] {
+            let expected = format!("4 4 - plant 1 exported: {shown} <--");
+            assert_eq!(line(form), Some(expected));
+        }
     }
 
     #[test]
     fn walk_goes_on_where_reading_refuses() {
         let store_leads_on = write_numbers(&with_values(&WHOLE_PERIOD[..25], &[(15, 1)]));
-        let last = |form: &[u8], count| last_lines(&[&store_leads_on, form].concat(), count);
-        let line = "25 35 - line 2 factor";
-        assert_eq!(last(&[], 2), ["R 7 15", "E 25 35"]);
-        assert_eq!(last(&[0x80], 3), [line, "R 7 15", "F 1 25"]);
-        assert_eq!(last(&[0x80, 0x00], 3), [line, "R 7 15", "F 2 25"]);
-        assert_eq!(last(&[0x80; 5], 3), [line, "R 7 15", "F 3 25"]);
+        let page = |form: &[u8]| page_of(&[&store_leads_on, form].concat());
+        for (form, end) in [
+            (&[][..], "R 7 15 23\nE 25 35\n"),
+            (&[0x80], "25 35 - line 2 factor: 80\nR 7 15 23\nF 1 25\n"),
+            (
+                &[0x80, 0x00],
+                "25 35 - line 2 factor: 80 00\nR 7 15 23\nF 2 25\n",
+            ),
+            (
+                &[0x80; 5],
+                "25 35 - line 2 factor: 80 80 80 80 80\nR 7 15 23\nF 3 25\n",
+            ),
+        ] {
+            let page = page(form);
+            assert!(page.contains("\n15 23 1 segment 2 next segment <--\n16 24 "));
+            assert!(page.ends_with(&format!("\n24 34 101 line 2 quantity\n{end}")));
+        }
     }
 
     #[test]
@@ -290,24 +361,39 @@ mod tests {
         assert_eq!(
             last(&[0x00, 0xAC, 0x02], 4),
             [
-                "26 37 0 after the last number",
+                "26 37 0 after the last number <--",
                 "27 38 300 after the last number",
-                "R 9 26",
+                "R 9 26 37",
                 "E 28 40",
             ]
         );
-        let line = "26 37 - after the last number";
-        assert_eq!(last(&[0x80], 3), [line, "R 9 26", "F 1 26"]);
-        assert_eq!(last(&[0x80, 0x00], 3), [line, "R 9 26", "F 2 26"]);
-        assert_eq!(last(&[0xFF; 5], 3), [line, "R 9 26", "F 3 26"]);
+        let line = |bytes| format!("26 37 - after the last number: {bytes} <--");
+        assert_eq!(last(&[0x80], 3), [&line("80"), "R 9 26 37", "F 1 26"]);
+        assert_eq!(
+            last(&[0x80, 0x00], 3),
+            [&line("80 00"), "R 9 26 37", "F 2 26"]
+        );
+        assert_eq!(
+            last(&[0xFF; 5], 3),
+            [&line("FF FF FF FF FF"), "R 9 26 37", "F 3 26"]
+        );
+        assert_eq!(
+            last(&[0x05, 0x80, 0x00], 4),
+            [
+                "26 37 5 after the last number <--",
+                "27 38 - after the last number: 80 00",
+                "R 9 26 37",
+                "F 2 27",
+            ]
+        );
     }
 
     #[test]
     fn values_out_of_their_range_are_printed_like_any_other() {
         let changed = with_values(&WHOLE_PERIOD, &[(13, 4_000_000_000), (25, 1_000_000_001)]);
         let page = page_of(&write_numbers(&changed));
-        assert!(page.contains("\n13 20 4000000000 segment 2 kind\n14 25 14899 "));
-        assert!(page.ends_with("\n25 39 1000000001 line 2 factor\nR 7 13\nE 26 44\n"));
+        assert!(page.contains("\n13 20 4000000000 segment 2 kind <--\n14 25 14899 "));
+        assert!(page.ends_with("\n25 39 1000000001 line 2 factor\nR 7 13 20\nE 26 44\n"));
     }
 
     #[test]
@@ -325,13 +411,17 @@ mod tests {
             last_lines(&ones_then(65_535, &[]), 3),
             [
                 "65534 65534 1 not told by the header",
-                "R 4 0",
+                "R 4 0 0",
                 "E 65535 65535",
             ]
         );
         assert_eq!(
             last_lines(&ones_then(65_531, &[0x80; 4]), 3),
-            ["65531 65531 - not told by the header", "R 4 0", "F 1 65531",]
+            [
+                "65531 65531 - not told by the header: 80 80 80 80",
+                "R 4 0 0",
+                "F 1 65531",
+            ]
         );
     }
 
@@ -343,7 +433,7 @@ mod tests {
                 last_lines(&ones_then(length, &[]), 3),
                 [
                     "65534 65534 1 not told by the header",
-                    "R 4 0",
+                    "R 4 0 0",
                     "C 65535 65535",
                 ]
             );
@@ -356,7 +446,7 @@ mod tests {
             last_lines(&ones_then(65_530, &[&limit[..], &[0x01]].concat()), 3),
             [
                 "65530 65530 4000000000 not told by the header",
-                "R 4 0",
+                "R 4 0 0",
                 "C 65531 65535",
             ]
         );

@@ -44,7 +44,7 @@ mod tests {
         let rows = PrintedFile(whole_period()).printed();
         assert!(rows.starts_with("P 1 10000 9931 69 "));
         assert!(rows.ends_with("\nS 2 14900 14899 1 0 3\n"));
-        assert_eq!(PrintedFile(vec![0x01]).printed(), "R 1 1\n");
+        assert_eq!(PrintedFile(vec![0x01]).printed(), "R 1 1 1\n");
     }
 
     #[test]

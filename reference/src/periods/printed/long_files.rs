@@ -45,18 +45,15 @@ mod tests {
 
     #[test]
     fn whole_files_are_refused_for_what_comes_after() {
-        assert_eq!(
-            printed_for("R 9 2708\n"),
-            12,
-            "two files of as many numbers"
-        );
-        assert_eq!(printed_for("R 9 26\n"), 6);
-        assert_eq!(printed_for("R 10 1\n"), 1, "the longest file alone");
+        assert_eq!(printed_for("R 9 2708 7029\n"), 6, "the longest file");
+        assert_eq!(printed_for("R 9 2708 5493\n"), 6, "the longest accepted");
+        assert_eq!(printed_for("R 9 26 37\n"), 6);
+        assert_eq!(printed_for("R 10 1 373\n"), 1, "the longest file alone");
     }
 
     #[test]
     fn endless_files_are_refused_at_their_start() {
-        assert_eq!(printed_for("R 7 9\n"), 1);
-        assert_eq!(printed_for("R 3 0\n"), 1);
+        assert_eq!(printed_for("R 7 9 9\n"), 1);
+        assert_eq!(printed_for("R 3 0 0\n"), 1);
     }
 }

@@ -5,6 +5,7 @@ pub mod file;
 mod long_files;
 
 use super::account_limits::about_every_subject;
+use super::lengths::{refused_cases, some_for_each_reason};
 use super::paper::proved_files;
 use super::seeded::period_cases::{full_size_files, seeded_cases};
 use crate::numbers::writing::write_numbers;
@@ -20,6 +21,8 @@ const SEED_OF_FULL_SIZE_FILES: u64 = 0x5EED_000E;
 const EACH_ANSWER_AT_LEAST: usize = 4;
 /// One period in this many is asked of those at the limits of the accounts.
 const PERIODS_TO_AN_ASKED_ONE: usize = 41;
+/// How many files with numbers of every length there are for each refusal.
+const LENGTHS_OF_EACH_REFUSAL: usize = 4;
 
 /// All suites for the program that prints rows.
 pub fn printed_suites() -> Vec<Suite<PrintedFile>> {
@@ -36,6 +39,10 @@ pub fn printed_suites() -> Vec<Suite<PrintedFile>> {
         suite(
             "rows, full-size at the limits of the accounts",
             files_at_limits(),
+        ),
+        suite(
+            "rows, refused behind numbers of every length",
+            files_of_every_length(),
         ),
         Suite {
             each_answer_at_least: EACH_ANSWER_AT_LEAST,
@@ -58,6 +65,12 @@ fn files_at_limits() -> Vec<Vec<u8>> {
         .collect()
 }
 
+/// Some of the files with numbers of every length.
+fn files_of_every_length() -> Vec<Vec<u8>> {
+    let files = refused_cases().into_iter().map(|case| case.file);
+    some_for_each_reason(files.collect(), LENGTHS_OF_EACH_REFUSAL)
+}
+
 /// The files of seeded cases; their tables do not matter here.
 fn seeded_files() -> Vec<Vec<u8>> {
     let cases = seeded_cases(SEED_OF_FILES).take(SEEDED_FILES);
@@ -73,7 +86,7 @@ mod tests {
     #[test]
     fn files_are_few_enough_to_start_a_slow_program_for_each() {
         let files: usize = printed_suites().iter().map(|suite| suite.cases.len()).sum();
-        assert!((300..=400).contains(&files), "{files}");
+        assert!((350..=450).contains(&files), "{files}");
     }
 
     #[test]

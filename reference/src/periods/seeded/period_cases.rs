@@ -254,6 +254,8 @@ mod tests {
     use super::*;
     use crate::periods::accounts::account;
     use crate::questions::label_of;
+    use crate::refusal::offsets_checked::{assert_behind_numbers, assert_offset_of_number};
+    use crate::refusal::Refused;
     use std::collections::{BTreeMap, BTreeSet};
 
     /// The reason for which a case of the goal is refused.
@@ -348,6 +350,29 @@ mod tests {
                 "{number}: {:?}",
                 places[&number]
             );
+        }
+    }
+
+    /// Asserts that the refusal has its byte: that of a number, that of a line, or the end.
+    fn assert_offset(file: &[u8], refused: &Refused) {
+        match refused.reason as u8 {
+            1..=9 => assert_offset_of_number(file, refused),
+            10 => {
+                let (plants, segments) = (usize::from(file[1]), usize::from(file[2]));
+                let lines_before = refused.place - 1;
+                let numbers = 4 + 3 * plants + 3 * segments + 5 * lines_before;
+                assert_behind_numbers(file, refused.offset, numbers);
+            }
+            _ => assert_eq!(refused.offset, file.len() as u64),
+        }
+    }
+
+    #[test]
+    fn every_refusal_has_its_byte() {
+        for case in period_cases(1).take(3000) {
+            if let Err(refused) = account(&case.file, case.tables) {
+                assert_offset(&case.file, &refused);
+            }
         }
     }
 

@@ -7,6 +7,7 @@ mod limits;
 mod values;
 pub mod whole_files;
 
+use super::lengths::reading::refused_by_reading;
 use super::paper::proved_files;
 use super::question::PeriodFile;
 use crate::questions::Suite;
@@ -37,6 +38,10 @@ pub fn reading_suites() -> Vec<Suite<PeriodFile>> {
             limits::at_and_one_past(),
         ),
         suite("readings, bytes after whole files", bytes::bytes_after()),
+        suite(
+            "readings, refused behind numbers of every length",
+            refused_by_reading(),
+        ),
         suite("readings, full-size files", full_size::full_size()),
         suite(
             "readings, seeded whole and damaged",
@@ -54,11 +59,13 @@ fn suite(name: &'static str, files: Vec<Vec<u8>>) -> Suite<PeriodFile> {
 #[cfg(test)]
 mod tests {
     use super::*;
+    use crate::periods::reading::read_period;
     use crate::questions::suites_checked::{assert_each_meets, assert_same_cases};
     use crate::questions::Question;
+    use crate::refusal::offsets_checked::assert_offset_of_number;
 
     /// The answers that each suite must meet, and how often at least.
-    const MET: [(&[&str], usize); 11] = [
+    const MET: [(&[&str], usize); 12] = [
         (&["A", "R1", "R2", "R3", "R4", "R5", "R7", "R9"], 1),
         (&["R1"], 200),
         (PeriodFile::LABELS, 400),
@@ -67,6 +74,7 @@ mod tests {
         (&["A", "R7", "R8"], 1000),
         (&["A", "R3", "R5", "R6", "R7", "R8"], 40),
         (&["R9"], 1000),
+        (&["R1", "R2", "R3", "R4", "R5", "R6", "R7", "R8", "R9"], 15),
         (&["A", "R1", "R2", "R3", "R6", "R7", "R8", "R9"], 60),
         (PeriodFile::LABELS, 200),
         (PeriodFile::LABELS, 10),
@@ -79,6 +87,15 @@ mod tests {
     #[test]
     fn suites_meet_each_answer_they_can() {
         assert_each_meets(&reading_suites(), &MET);
+    }
+
+    #[test]
+    fn every_refusal_has_the_byte_that_goes_with_its_place() {
+        for PeriodFile(file) in reading_suites().iter().flat_map(|suite| &suite.cases) {
+            if let Err(refused) = read_period(file) {
+                assert_offset_of_number(file, &refused);
+            }
+        }
     }
 
     #[test]

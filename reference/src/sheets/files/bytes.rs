@@ -124,8 +124,13 @@ mod tests {
         let cuts = cuts_of_a_year();
         assert_eq!(cuts.len(), 368);
         for (length, cut) in cuts.iter().enumerate() {
-            let place = length.saturating_sub(1);
-            assert_eq!(printed_for(cut), format!("R 1 {place}\n"), "{length}");
+            // The count has two bytes, and each reading has one.
+            let (place, offset) = match length {
+                0 | 1 => (0, 0),
+                _ => (length - 1, length),
+            };
+            let expected = format!("R 1 {place} {offset}\n");
+            assert_eq!(printed_for(cut), expected, "{length}");
         }
     }
 
@@ -148,6 +153,9 @@ mod tests {
             let refused = figures_of(&file).expect_err("the fault is refused");
             assert!([1, 2, 3].contains(&(refused.reason as u8)));
             assert!([0, 1, 183, numbers - 1].contains(&refused.place));
+            let bytes_of_count = if refused.place > 0 { 2 } else { 0 };
+            let readings_before = refused.place.saturating_sub(1) as u64;
+            assert_eq!(refused.offset, bytes_of_count + readings_before);
         }
     }
 
@@ -157,13 +165,14 @@ mod tests {
             let printed = files.iter().map(|file| printed_for(file));
             printed.filter(|came| came == line).count()
         };
-        assert_eq!(refused(some_bytes_after(), "R 9 2\n"), 9);
-        assert_eq!(refused(some_bytes_after(), "R 9 367\n"), 9);
+        assert_eq!(refused(some_bytes_after(), "R 9 2 2\n"), 9);
+        assert_eq!(refused(some_bytes_after(), "R 9 367 368\n"), 9);
         assert_eq!(some_bytes_after().len(), 18);
         let tails = 256 + 5 * 4 + 4;
-        assert_eq!(refused(bytes_after(), "R 9 2\n"), tails);
-        assert_eq!(refused(bytes_after(), "R 9 9\n"), tails);
-        assert_eq!(refused(bytes_after(), "R 9 367\n"), 2 * tails);
+        assert_eq!(refused(bytes_after(), "R 9 2 2\n"), tails);
+        assert_eq!(refused(bytes_after(), "R 9 9 20\n"), tails);
+        assert_eq!(refused(bytes_after(), "R 9 367 368\n"), tails);
+        assert_eq!(refused(bytes_after(), "R 9 367 1832\n"), tails);
         assert_eq!(bytes_after().len(), 4 * tails);
     }
 }

@@ -100,14 +100,14 @@ mod tests {
 
     #[test]
     fn count_and_readings_decide_together() {
-        assert_eq!(printed_for(0, 1), "R 5 0\n");
-        assert_eq!(printed_for(1, 0), "R 1 1\n");
+        assert_eq!(printed_for(0, 1), "R 5 0 0\n");
+        assert_eq!(printed_for(1, 0), "R 1 1 1\n");
         assert_eq!(printed_for(1, 1), "20 0 0 1 1\n");
-        assert_eq!(printed_for(1, 2), "R 9 2\n");
-        assert_eq!(printed_for(MOST, YEAR - 1), "R 1 366\n");
-        assert_eq!(printed_for(MOST, YEAR + 1), "R 9 367\n");
-        assert_eq!(printed_for(MOST + 1, YEAR + 1), "R 5 0\n");
-        assert_eq!(printed_for(TWO_BYTES_TURN + 1, 1), "R 5 0\n");
+        assert_eq!(printed_for(1, 2), "R 9 2 2\n");
+        assert_eq!(printed_for(MOST, YEAR - 1), "R 1 366 367\n");
+        assert_eq!(printed_for(MOST, YEAR + 1), "R 9 367 368\n");
+        assert_eq!(printed_for(MOST + 1, YEAR + 1), "R 5 0 0\n");
+        assert_eq!(printed_for(TWO_BYTES_TURN + 1, 1), "R 5 0 0\n");
     }
 
     #[test]

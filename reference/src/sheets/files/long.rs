@@ -54,11 +54,12 @@ mod tests {
             printed.filter(|came| came == line).count()
         };
         assert_eq!(count("1464000000000 365 0 366 1\n"), 1);
-        assert_eq!(count("R 9 367\n"), 2 + 2 * (4 + 1) + 1);
-        assert_eq!(count("R 9 2\n"), 2 + 1);
-        assert_eq!(count("R 9 3\n"), 1);
-        assert_eq!(count("R 5 0\n"), 2);
-        assert_eq!(count("R 3 0\n"), 2);
+        assert_eq!(count("R 9 367 1832\n"), 2 + 2 * 4);
+        assert_eq!(count("R 9 367 368\n"), 2 + 1);
+        assert_eq!(count("R 9 2 2\n"), 2 + 1);
+        assert_eq!(count("R 9 3 3\n"), 1);
+        assert_eq!(count("R 5 0 0\n"), 2);
+        assert_eq!(count("R 3 0 0\n"), 2);
         assert_eq!(files.len(), 1 + 13 + 3 + 1 + 2 + 2);
     }
 }

@@ -3,6 +3,7 @@
 pub mod bytes;
 pub mod counts;
 pub mod few_days;
+pub mod lengths;
 pub mod long;
 pub mod meter;
 pub mod nearly_equal;

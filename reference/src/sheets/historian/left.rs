@@ -1,4 +1,5 @@
-//! What a call leaves with the historian: the refusal and the place, then the five figures.
+//! What a call leaves with the historian: the refusal, its place and its offset, then the five
+//! figures.
 
 use crate::frames::split;
 use crate::questions::Answer;
@@ -105,7 +106,7 @@ mod tests {
     fn accepted_sheet_leaves_its_figures() {
         let left = Left::by(&[0x03, 0xAC, 0x02, 0x09, 0x09]);
         let expected = [
-            &[0; 12][..],
+            &[0; 20][..],
             &[62, 1, 0, 0, 0, 0, 0, 0],
             &[1, 0, 0, 0, 0, 0, 0, 0],
             &[0, 0, 0, 0, 0, 0, 0, 0],
@@ -114,15 +115,17 @@ mod tests {
         ];
         assert_eq!(left.bytes(), expected.concat());
         assert_eq!(left.label(), "A");
-        assert_eq!(left.length_in(&[0; 60]), 52);
-        assert_eq!(left.length_in(&[0; 51]), 51);
+        assert_eq!(left.length_in(&[0; 70]), 60);
+        assert_eq!(left.length_in(&[0; 59]), 59);
     }
 
     #[test]
     fn refused_file_leaves_the_figures_alone() {
-        let left = Left::by(&[0x02, 0x05]);
+        let left = Left::by(&[0x02, 0xAC, 0x02]);
         let expected = [
-            &[1, 0, 0, 0, 2, 0, 0, 0, 0, 0, 0, 0][..],
+            &[1, 0, 0, 0][..],
+            &[2, 0, 0, 0, 0, 0, 0, 0],
+            &[3, 0, 0, 0, 0, 0, 0, 0],
             &[0xB1; 8],
             &[0xB2; 8],
             &[0xB3; 8],
@@ -137,8 +140,8 @@ mod tests {
     fn differences_name_what_differs() {
         let left = Left::by(&[0x02, 0x05, 0x05]);
         let mut came = left.bytes();
-        came[20] = 7;
-        came[44..].fill(0xB5);
+        came[28] = 7;
+        came[52..].fill(0xB5);
         assert_eq!(
             left.difference(&came),
             "figure 2: expected 1, came 7; figure 5: expected 1, came what was there"
@@ -146,19 +149,19 @@ mod tests {
         let refused = Left::by(&[0x02, 0x05]);
         let mut came = refused.bytes();
         came[0] = 9;
-        came[12..20].fill(0);
+        came[20..28].fill(0);
         assert_eq!(
             refused.difference(&came),
-            "expected refusal 1 and place 2, came refusal 9 and place 2; \
+            "expected refusal 1, place 2 and offset 2, came refusal 9, place 2 and offset 2; \
              figure 1: expected what was there, came 0"
         );
         assert_eq!(
-            refused.difference(&came[..51]),
-            "expected refusal 1 and place 2, came only 51 of 52 bytes"
+            refused.difference(&came[..59]),
+            "expected refusal 1, place 2 and offset 2, came only 59 of 60 bytes"
         );
         assert_eq!(
             refused.difference(&[]),
-            "expected refusal 1 and place 2, came no answer"
+            "expected refusal 1, place 2 and offset 2, came no answer"
         );
     }
 }

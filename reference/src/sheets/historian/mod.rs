@@ -4,7 +4,7 @@
 pub mod call;
 mod left;
 
-use super::files::{bytes, counts, few_days, nearly_equal, spells};
+use super::files::{bytes, counts, few_days, lengths, nearly_equal, spells};
 use super::printed::printed_suites;
 use super::seeded::seeded_sheets;
 use crate::file_bytes::{every_value, telling_values};
@@ -72,6 +72,10 @@ fn suites_of_damaged_sheets() -> Vec<Suite<DaysCall>> {
         ),
         suite("historian days, bytes after sheets", bytes::bytes_after()),
         suite(
+            "historian days, refused behind readings of every length",
+            lengths::refused_sheets(),
+        ),
+        suite(
             "historian days, each byte of a full year changed to each value",
             bytes::year_changed(every_value),
         ),
@@ -105,7 +109,7 @@ mod tests {
     use crate::questions::{Answer, Question};
 
     /// The answers that each suite must meet, and how often at least.
-    const MET: [(&[&str], usize); 14] = [
+    const MET: [(&[&str], usize); 15] = [
         (DaysCall::LABELS, 20),
         (&["A"], 9840),
         (&["A"], 5000),
@@ -115,6 +119,7 @@ mod tests {
         (&["A", "R1", "R5", "R9"], 40),
         (&["R1", "R2", "R3"], 500),
         (&["R9"], 1000),
+        (&["R1", "R2", "R3", "R9"], 100),
         (&["A", "R1", "R2", "R5", "R9"], 100),
         (&["R1"], 3500),
         (&["A", "R2", "R3", "R9"], 1000),

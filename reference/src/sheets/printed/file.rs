@@ -50,7 +50,7 @@ mod tests {
         assert_eq!(sheet.printed(), "9 0 1 1 1\n");
         assert_eq!(PrintedSheet::label_of(&sheet.printed()), "A");
         let refused = PrintedSheet(vec![3, 9, 0]);
-        assert_eq!(refused.printed(), "R 1 3\n");
+        assert_eq!(refused.printed(), "R 1 3 3\n");
         assert_eq!(PrintedSheet::label_of(&refused.printed()), "R1");
     }
 

@@ -4,7 +4,7 @@
 pub mod file;
 
 use super::files::years::years;
-use super::files::{bytes, counts, few_days, long};
+use super::files::{bytes, counts, few_days, lengths, long};
 use super::seeded::seeded_sheets;
 use super::sheet::sheet_of;
 use super::worked::worked_files;
@@ -14,6 +14,8 @@ use file::PrintedSheet;
 /// The most days of the sheets that are all asked, and their largest reading.
 const MOST_OF_FEW_DAYS: u32 = 4;
 const LARGEST_OF_FEW_DAYS: usize = 2;
+/// One sheet in this many is asked of those with readings of every length.
+const LENGTHS_TO_AN_ASKED_ONE: usize = 31;
 /// How many seeded files there are.
 const SEEDED_FILES: usize = 120;
 /// The seed of these files.
@@ -45,6 +47,10 @@ pub fn printed_suites() -> Vec<Suite<PrintedSheet>> {
         ),
         suite("days, bytes after a sheet", bytes::some_bytes_after()),
         suite(
+            "days, refused behind readings of every length",
+            sheets_of_every_length(),
+        ),
+        suite(
             "days, files as long as can be and longer",
             long::long_files(),
         ),
@@ -65,6 +71,12 @@ fn full_years() -> Vec<Vec<u8>> {
     years().iter().map(|readings| sheet_of(readings)).collect()
 }
 
+/// Some of the sheets with readings of every length.
+fn sheets_of_every_length() -> Vec<Vec<u8>> {
+    let files = lengths::refused_sheets().into_iter();
+    files.step_by(LENGTHS_TO_AN_ASKED_ONE).collect()
+}
+
 fn seeded_files() -> Vec<Vec<u8>> {
     seeded_sheets(SEED_OF_FILES).take(SEEDED_FILES).collect()
 }
@@ -77,7 +89,7 @@ mod tests {
     use crate::questions::FileToPrint;
 
     /// The answers that each suite must meet, and how often at least.
-    const MET: [(&[&str], usize); 10] = [
+    const MET: [(&[&str], usize); 11] = [
         (PrintedSheet::LABELS, 2),
         (&["A"], 120),
         (&["A"], 14),
@@ -86,6 +98,7 @@ mod tests {
         (&["A", "R1", "R5", "R9"], 8),
         (&["R1", "R2", "R3"], 10),
         (&["R9"], 18),
+        (&["R1", "R2", "R3", "R9"], 2),
         (&["A", "R3", "R5", "R9"], 1),
         (PrintedSheet::LABELS, EACH_ANSWER_AT_LEAST),
     ];

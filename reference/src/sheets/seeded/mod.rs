@@ -83,6 +83,7 @@ fn readings_of_size(habit: Habit, size: Size, seeded: &mut Seeded) -> Vec<u64> {
 mod tests {
     use super::*;
     use crate::questions::label_of;
+    use crate::refusal::offsets_checked::assert_offset_of_number;
     use crate::refusal::Reason;
     use crate::sheets::figures::figures_of;
     use std::collections::{BTreeMap, BTreeSet};
@@ -167,6 +168,15 @@ mod tests {
         for number in [1, 2, 3, 9] {
             assert!(places[&number].len() >= AT_LEAST, "{number}");
             assert!(places[&number].iter().any(|&place| place > 300), "{number}");
+        }
+    }
+
+    #[test]
+    fn every_refusal_has_the_byte_that_goes_with_its_place() {
+        for SheetCase(file) in sheet_cases(1).take(5000) {
+            if let Err(refused) = figures_of(&file) {
+                assert_offset_of_number(&file, &refused);
+            }
         }
     }
 

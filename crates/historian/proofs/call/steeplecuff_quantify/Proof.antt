@@ -1,6 +1,7 @@
 -- `historian::call::steeplecuff_quantify` meets its contract: the file is settled, the room in the historian's tables is tested, and the rows are
 -- written as bytes. Assumes nothing.
 use mathlib.Core.Path.{_≡_}
+use lib.ListN.{length}
 use denote.Ref.{now}
 use borrow.Author.Needs.{needs}
 use Rattle.fields.specs.Answers.{said}
@@ -21,7 +22,7 @@ module _ (t : tie.After-answer-with-tables) where
   told :
       let r = settled .settle .result in
       said (t .answer-with-tables .result)
-      ≡ withTables (r .«plant_count») (r .«segment_count») (wholeNumbers (now (start .args .plants))) (wholeNumbers (now (start .args .segments))) (said (r .answer))
+      ≡ withTables (r .«plant_count») (r .«segment_count») (wholeNumbers (now (start .args .plants))) (wholeNumbers (now (start .args .segments))) (length (now (start .args .file))) (said (r .answer))
   told = rw (t .before .before .room .ensures, t .before .room2 .ensures) at (t .answer-with-tables .ensures)
 
 -- ---- the needs

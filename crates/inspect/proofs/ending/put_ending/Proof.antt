@@ -20,6 +20,12 @@ stop-of-requires c κs = search needs
 put-stopped-at-requires : tie.Need-put-stopped-at-requires
 put-stopped-at-requires c κs = search needs
 
+is-marked-requires : tie.Need-is-marked-requires
+is-marked-requires c κs = search needs
+
+put-close-at-requires : tie.Need-put-close-at-requires
+put-close-at-requires c κs = search needs
+
 put-verdict-requires : tie.Need-put-verdict-requires
 put-verdict-requires c κs = search needs
 
@@ -37,9 +43,9 @@ same-length c = search needs
 
 returns : tie.Need-returns
 returns c =
-    let a = c .before .before .before .before .before .before .before .before .before .before .before .before .before .before .before .before .before .before .before .args in
-    let step = c .before .before .before .before .before .before .before .before .before .before .before .before .before .before .before .before .step-at in
-    let verdict = c .before .before .before .before .before .before .before .before .before .before .before .before .before .before .before .verdict in
+    let a = c .before .before .before .before .before .before .before .before .before .before .before .before .before .before .before .before .before .before .before .before .before .before .before .before .before .args in
+    let step = c .before .before .before .before .before .before .before .before .before .before .before .before .before .before .before .before .before .before .before .before .before .before .step-at in
+    let answer = c .before .before .before .before .before .before .before .before .before .before .before .before .before .before .before .before .before .before .before .before .verdict in
     let text =
     page-end
     (now (a .file))
@@ -47,13 +53,15 @@ returns c =
     (a .spot .place)
     (a .spot .byte)
     (a .field)
-    (step .result .found)
-    (verdict .result)
+    (step .result .report .number)
+    (answer .result)
     (ap (λ (s : Stepped). s .found) (step .ensures))
-    (verdict .ensures)
-    (c .before .before .before .before .before .before .before .before .before .before .before .before .before .stop-of .ensures)
+    (answer .ensures)
+    (c .before .before .before .before .before .before .before .before .before .before .before .before .before .before .before .before .before .before .stop-of .ensures)
     (c .before .before .before .refusal .ensures) in
-    rw text (put-then (put-then (c .before .before .before .before .before .before .before .before .before .before .before .put-stopped-at .ensures) (c .before .before .before .before .before .before .before .put-verdict .ensures)) (c .before .before .put-stop .ensures))
+    let closed = rw (c .before .before .before .before .before .before .before .before .before .before .before .before .is-marked .ensures) at (c .before .before .before .before .before .before .before .before .before .before .before .put-close-at .ensures) in
+    let line = put-then (c .before .before .before .before .before .before .before .before .before .before .before .before .before .before .before .before .put-stopped-at .ensures) closed in
+    rw text (put-then (put-then line (c .before .before .before .before .before .before .before .put-verdict .ensures)) (c .before .before .put-stop .ensures))
 
 pub put-ending-spec : {M : Type 1} → statement M
 put-ending-spec =
@@ -63,6 +71,8 @@ put-ending-spec =
     verdict-requires
     stop-of-requires
     put-stopped-at-requires
+    is-marked-requires
+    put-close-at-requires
     put-verdict-requires
     refusal-requires
     cast-put-stop

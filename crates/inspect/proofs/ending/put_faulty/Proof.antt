@@ -19,13 +19,23 @@ put-words-requires c κs = search needs
 put-field-requires : tie.Need-put-field-requires
 put-field-requires c κs = search needs
 
+slice-aggregate-put-words-2 : tie.Need-slice-aggregate-put-words-2
+slice-aggregate-put-words-2 c = search needs
+
+put-words-requires-2 : tie.Need-put-words-requires-2
+put-words-requires-2 c κs = search needs
+
+put-bytes-at-requires : tie.Need-put-bytes-at-requires
+put-bytes-at-requires c κs = search needs
+
 same-length : tie.Need-same-length
 same-length c = search needs
 
 returns : tie.Need-returns
 returns c =
-    let numbers = put-then (c .before .before .before .before .before .before .before .before .before .before .before .before .before .before .before .put-number .ensures) (c .before .before .before .before .before .before .before .before .before .before .before .put-spaced .ensures) in
-    put-then (put-then numbers (c .before .before .before .before .before .before .put-words .ensures)) (c .before .before .put-field .ensures)
+    let numbers = put-then (c .before .before .before .before .before .before .before .before .before .before .before .before .before .before .before .before .before .before .before .before .before .before .before .before .put-number .ensures) (c .before .before .before .before .before .before .before .before .before .before .before .before .before .before .before .before .before .before .before .before .put-spaced .ensures) in
+    let words = put-then (put-then numbers (c .before .before .before .before .before .before .before .before .before .before .before .before .before .before .before .put-words .ensures)) (c .before .before .before .before .before .before .before .before .before .before .before .put-field .ensures) in
+    put-then (put-then words (c .before .before .before .before .before .before .put-words2 .ensures)) (c .before .before .put-bytes-at .ensures)
 
 pub put-faulty-spec : {M : Type 1} → statement M
 put-faulty-spec =
@@ -36,5 +46,8 @@ put-faulty-spec =
     slice-aggregate-put-words
     put-words-requires
     put-field-requires
+    slice-aggregate-put-words-2
+    put-words-requires-2
+    put-bytes-at-requires
     same-length
     returns)

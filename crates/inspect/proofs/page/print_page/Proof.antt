@@ -18,11 +18,11 @@ use Rattle.inspect.proofs.page.print_page.Statement.{statement}
 use Rattle.inspect.proofs.page.print_page.Tie as tie
 
 abbrev Inv-loop : tie.InvT-loop
-Inv-loop room₀ file cut header end₀ place₀ byte₀ t12 room end place byte =
+Inv-loop room₀ file cut header answer end₀ place₀ byte₀ t15 room end place byte =
     (place ≤ byte) × (byte ≤ length file) × (length room ≡ length room₀) × (end + mostPageText ≤ length room)
 
 abbrev μ-loop : tie.MeasureT-loop
-μ-loop room₀ file cut header end₀ place₀ byte₀ t12 room end place byte = length file - byte
+μ-loop room₀ file cut header answer end₀ place₀ byte₀ t15 room end place byte = length file - byte
 
 -- ---- what is known when the line of a number is put
 abbrev Put-line : Type 0
@@ -30,16 +30,16 @@ Put-line = tie.After-slice-known3 Inv-loop μ-loop
 
 moved :
     (c : Put-line) →
-    Bounds (now (c .before .before .before .before .before .before .before .before .before .before .before .before .before .args .file))
-    (c .before .before .before .before .before .before .before .before .before .loop .byte)
-    (c .before .before .before .before .before .found .given .0 .0)
-    (c .before .before .before .before .before .before .before .before .step-at .result .at)
+    Bounds (now (c .before .before .before .before .before .before .before .before .before .before .before .before .before .before .before .before .args .file))
+    (c .before .before .before .before .before .before .before .before .before .before .before .loop .byte)
+    (c .before .before .before .before .before .before .found .given .0 .0)
+    (c .before .before .before .before .before .before .before .before .before .before .step-at .result .at)
 moved c =
-    let found = c .before .before .before .before .before .found .given in
-    let step = c .before .before .before .before .before .before .before .before .step-at in
+    let found = c .before .before .before .before .before .before .found .given in
+    let step = c .before .before .before .before .before .before .before .before .before .before .step-at in
     moves-on
-    (now (c .before .before .before .before .before .before .before .before .before .before .before .before .before .args .file))
-    (c .before .before .before .before .before .before .before .before .before .loop .byte)
+    (now (c .before .before .before .before .before .before .before .before .before .before .before .before .before .before .before .before .args .file))
+    (c .before .before .before .before .before .before .before .before .before .before .before .loop .byte)
     (found .0 .0)
     (found .0 .1 .0)
     (step .result)
@@ -47,18 +47,21 @@ moved c =
     (found .1)
 
 -- the line ends within the room, which keeps its length
-as-long : (c : Put-line) → length (c .before .before .put-number-line .last .0) ≡ length (c .before .before .before .before .before .before .before .before .before .loop .room)
+as-long : (c : Put-line) → length (c .before .before .put-number-line .last .0) ≡ length (c .before .before .before .before .before .before .before .before .before .before .before .loop .room)
 as-long c = put-length (c .before .before .put-number-line .ensures)
 
 within : (c : Put-line) → c .before .before .put-number-line .result ≤ length (c .before .before .put-number-line .last .0)
 within c =
-    let l = c .before .before .before .before .before .before .before .before .before .loop in
-    let line = number-room (l .place) (l .byte) (c .before .before .before .before .before .found .given .0 .0) (c .before .before .before .before .before .before .before .field-at .result) in
+    let l = c .before .before .before .before .before .before .before .before .before .before .before .loop in
+    let line = number-room (l .place) (l .byte) (c .before .before .before .before .before .before .found .given .0 .0) (c .before .before .before .before .before .before .before .before .field-at .result) (c .before .before .before .before .is-marked .result) in
     omega (arith, put-near mostPageText (c .before .before .put-number-line .ensures) line, as-long c, l .inv .3)
 
 -- ---- the needs
 header-of-requires : tie.Need-header-of-requires Inv-loop μ-loop
 header-of-requires c κs = search needs
+
+verdict-requires : tie.Need-verdict-requires Inv-loop μ-loop
+verdict-requires c κs = search needs
 
 loop-holds : tie.Need-loop-holds Inv-loop μ-loop
 loop-holds c = omega arith
@@ -73,13 +76,16 @@ enum-known-found : tie.Need-enum-known-found Inv-loop μ-loop
 enum-known-found c = search needs
 
 print-ending-requires : tie.Need-print-ending-requires Inv-loop μ-loop
-print-ending-requires c κs = c .before .before .before .before .loop .inv .3
+print-ending-requires c κs = c .before .before .before .before .before .loop .inv .3
 
 same-length : tie.Need-same-length Inv-loop μ-loop
 same-length c = omega arith
 
 returns : tie.Need-returns Inv-loop μ-loop
 returns c = search needs
+
+is-marked-requires : tie.Need-is-marked-requires Inv-loop μ-loop
+is-marked-requires c κs = search needs
 
 put-number-line-requires : tie.Need-put-number-line-requires Inv-loop μ-loop
 put-number-line-requires c κs = search needs
@@ -117,7 +123,7 @@ loop-again c = (
   omega (arith, moved (c .before) .inside),
   omega (arith, as-long (c .before)),
   ⊎-elim
-      (λ printed. omega (arith, printed .5, as-long (c .before), c .before .before .before .before .before .before .before .before .before .before .loop .inv .3))
+      (λ printed. omega (arith, printed .5, as-long (c .before), c .before .before .before .before .before .before .before .before .before .before .before .before .loop .inv .3))
       (λ waits. omega (arith, waits .0 .left, waits .1, within (c .before)))
       (c .if1 .came),
 )
@@ -129,6 +135,7 @@ print-page-spec =
     Inv-loop
     μ-loop
     header-of-requires
+    verdict-requires
     loop-holds
     step-at-requires
     field-at-requires
@@ -136,6 +143,7 @@ print-page-spec =
     print-ending-requires
     same-length
     returns
+    is-marked-requires
     put-number-line-requires
     sub-if1
     slice-aggregate-print

@@ -16,13 +16,17 @@ put-spaced-requires-2 c κs = search needs
 put-field-requires : tie.Need-put-field-requires
 put-field-requires c κs = search needs
 
+put-close-requires : tie.Need-put-close-requires
+put-close-requires c κs = search needs
+
 same-length : tie.Need-same-length
 same-length c = search needs
 
 returns : tie.Need-returns
 returns c =
-    let numbers = put-then (c .before .before .before .before .before .before .before .before .before .before .before .before .before .before .put-number .ensures) (c .before .before .before .before .before .before .before .before .before .before .put-spaced .ensures) in
-    put-then (put-then numbers (c .before .before .before .before .before .before .put-spaced2 .ensures)) (c .before .before .put-field .ensures)
+    let numbers = put-then (c .before .before .before .before .before .before .before .before .before .before .before .before .before .before .before .before .before .before .put-number .ensures) (c .before .before .before .before .before .before .before .before .before .before .before .before .before .before .put-spaced .ensures) in
+    let words = put-then (put-then numbers (c .before .before .before .before .before .before .before .before .before .before .put-spaced2 .ensures)) (c .before .before .before .before .before .before .put-field .ensures) in
+    put-then words (c .before .before .put-close .ensures)
 
 pub put-number-line-spec : {M : Type 1} → statement M
 put-number-line-spec =
@@ -32,5 +36,6 @@ put-number-line-spec =
     put-spaced-requires
     put-spaced-requires-2
     put-field-requires
+    put-close-requires
     same-length
     returns)

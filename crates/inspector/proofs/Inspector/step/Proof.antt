@@ -46,11 +46,10 @@ use denote.Triple.Entry.{Vals, onEntry}
 use denote.Triple.Spec.{Meets, tripleOf}
 use denote.Triple.Table.{entered, cited}
 use denote.Triple.Walked.{Stays, stay-ref, says, walkOf, goes-ref, Walks, ends-at, walked, walk-meets}
-use Rattle.number.specs.declared.Number.{Number}
-use Rattle.number.specs.Reading.{readAt}
-use Rattle.number.specs.Finding.{finds}
+use Rattle.number.specs.declared.Report.{Report}
+use Rattle.number.specs.Finding.{finds, ReadAtPromise}
 use Rattle.number.specs.Counting.{endOf}
-use Rattle.number.proofs.Number as N
+use Rattle.number.proofs.Report as N
 use Rattle.number.proofs.read_at as read
 use Rattle.number.proofs.read_at.Symbol as read-def
 use Rattle.number.proofs.read_at.Symbol.{name as #number·read-at}
@@ -102,11 +101,11 @@ module _ {M : Type 1} (𝓤 : URA M) (H : Heap 𝓤) (A : Atoms 𝓤) (W : Given
   moved byte = record { file = reader .file; at = byte }
 
   -- what is known of an answer, and of the byte after it
-  abbrev Answers : Number → Type 0
-  Answers found = finds found ≡ readAt (now (reader .file)) (reader .at)
+  abbrev Answers : Report → Type 0
+  Answers found = ReadAtPromise (now (reader .file)) (reader .at) found
 
-  abbrev Ends : Number → ℕ → Type 0
-  Ends found byte = byte ≡ endOf (reader .at) (finds found)
+  abbrev Ends : Report → ℕ → Type 0
+  Ends found byte = byte ≡ endOf (reader .at) (finds (found .number))
 
   -- the parameter, and its machine value
   abbrev x : RefT Inspector × Unit {0}
@@ -138,7 +137,7 @@ module _ {M : Type 1} (𝓤 : URA M) (H : Heap 𝓤) (A : Atoms 𝓤) (W : Given
   asks-read : ent 𝓤 (onEntry 𝓤 H A read.signature (κ′, tt) (q′, tt) (reader .file, (reader .at, tt)) passed) (ReadAt 𝓤 H A at-mem run .pre to-read)
   asks-read = qed W ((‵ (flft κ′ q′) ⊛ ‵ ftrue) ∷ ‵ (owns (ShrSlice (named 0) κ′ u8 ∷ usize ∷ []) (reader .file, (reader .at, tt)) passed) ∷ []) ∵ join ! $ frame ! $ done !
 
-  answered : (found : Number) → ent 𝓤 (ensured 𝓤 H A read.ended (read.clauses 𝓤 H A at-mem run) (κ′, tt) (reader .file, (reader .at, tt)) tt found) (fact 𝓤 (Answers found))
+  answered : (found : Report) → ent 𝓤 (ensured 𝓤 H A read.ended (read.clauses 𝓤 H A at-mem run) (κ′, tt) (reader .file, (reader .at, tt)) tt found) (fact 𝓤 (Answers found))
   answered found = exE 𝓤 _ (λ ws. snd∗ 𝓤 (sem 𝓤 H A (lasts read.ended (κ′, tt) (reader .file, (reader .at, tt)) ws)) (fact 𝓤 (Answers found)))
 
   -- what the reader owns gives what `read_at` asks, and is kept
@@ -152,15 +151,15 @@ module _ {M : Type 1} (𝓤 : URA M) (H : Heap 𝓤) (A : Atoms 𝓤) (W : Given
       move ! (2 ∷ 0 ∷ []) $ use2 W (raw (ReadAt 𝓤 H A at-mem run .pre to-read)) asks-read $ frame ! $ done !)
 
   -- the call of `after`, on an answer with the machine value u: what it is passed, and what it asks and promises
-  abbrev to-after : Number → Val → After 𝓤 H A at-mem run .Ghost
+  abbrev to-after : Report → Val → After 𝓤 H A at-mem run .Ghost
   to-after found u = ((tt, tt, tt, (found, (reader .at, tt)), (u ∷ [], (vint w64 (reader .at) ∷ [], tt))), tt)
 
-  asks-after : reader .at < 2 ^ 64 → (found : Number) (u : Val) → Is N.the-row found (u ∷ []) → ent 𝓤 (emp 𝓤) (After 𝓤 H A at-mem run .pre (to-after found u))
+  asks-after : reader .at < 2 ^ 64 → (found : Report) (u : Val) → Is N.the-row found (u ∷ []) → ent 𝓤 (emp 𝓤) (After 𝓤 H A at-mem run .pre (to-after found u))
   asks-after fits found u is =
       qed W [] ∵ nothing ! $ owned ! usize (Is usize) (uint-makes 𝓤 H A W w64) (reader .at) _ (refl, fits) $ fjoin ! $ owned ! N.the-row (Is N.the-row) (answer-makes 𝓤 H A) found (u ∷ []) is $ fjoin ! $
       nothing ! $ join ! $ frame ! $ done !
 
-  went : (found : Number) (byte : ℕ) → ent 𝓤 (ensured 𝓤 H A after.ended (after.clauses 𝓤 H A at-mem run) tt (found, (reader .at, tt)) tt byte) (fact 𝓤 (Ends found byte))
+  went : (found : Report) (byte : ℕ) → ent 𝓤 (ensured 𝓤 H A after.ended (after.clauses 𝓤 H A at-mem run) tt (found, (reader .at, tt)) tt byte) (fact 𝓤 (Ends found byte))
   went found byte = exE 𝓤 _ (λ ws. snd∗ 𝓤 (sem 𝓤 H A (lasts after.ended tt (found, (reader .at, tt)) ws)) (fact 𝓤 (Ends found byte)))
 
   -- the reader at another byte owns what it owned: the file is the same, and all that a byte owns is that it is a `usize`
@@ -168,12 +167,12 @@ module _ {M : Type 1} (𝓤 : URA M) (H : Heap 𝓤) (A : Atoms 𝓤) (W : Given
   again byte fits = qed W (‵ Own ∷ []) ∵ owned ! usize (Is usize) (uint-makes 𝓤 H A W w64) byte _ (refl, fits) $ move ! (1 ∷ 0 ∷ []) $ by ! (own-put 𝓤 H A W D L 1 fields byte mach)
 
   -- what is had once the loan is closed is enough for the exit
-  exits : (found : Number) (u : Val) (byte : ℕ) → Answers found → Ends found byte
+  exits : (found : Report) (u : Val) (byte : ℕ) → Answers found → Ends found byte
       → ent 𝓤 (⋆ 𝓤 H A (‵ (fobs γ (R .coded .code (moved byte))) ∷ ‵ (fbor κ (Body (mem R) b o γ)) ∷ ‵ (flft κ q) ∷ ‵ (N.the-row .own found (u ∷ [])) ∷ (‵ (flft κ′ q′) ⊛ ‵ ftrue) ∷ [])) (Post u)
   exits found u byte e e′ =
       qed W (‵ (fobs γ (R .coded .code (moved byte))) ∷ ‵ (fbor κ (Body (mem R) b o γ)) ∷ ‵ (flft κ q) ∷ ‵ (N.the-row .own found (u ∷ [])) ∷ (‵ (flft κ′ q′) ⊛ ‵ ftrue) ∷ []) ∵
       suffices ! _ (ends-at 𝓤 H A step.ended stayed (step.clauses 𝓤 H A at-mem run) W (((κ, (κ′, tt)), (q, (q′, tt)), bounds, x, vals), tt) u found (moved byte, tt) (tt, tt)) $
-      says ! (record { found = e; moved = ap moved (e′ ∙ ap (endOf (reader .at)) e) }) $
+      says ! (record { reported = e; moved = ap moved (e′ ∙ ap (endOf (reader .at)) (e .number)) }) $
       move ! (2 ∷ 4 ∷ []) $ join ! $ frame ! $ feqI ! (List Val) (vptr b o ∷ []) (vptr b o ∷ []) refl $ fjoin3 ! $ nothing ! $ move ! (1 ∷ 0 ∷ []) $ fjoin ! $ frame ! $ done !
 
   module _ (C : Calls 𝓤 H) (Λ : Loops 𝓤 H) (fm : FmC 𝓤 H (W .laws) C) (known-read : Triple 𝓤 (C #number·read-at) (ReadAt 𝓤 H A at-mem run)) (known-after : Triple 𝓤 (C #inspector·after) (After 𝓤 H A at-mem run)) where
@@ -195,7 +194,7 @@ module _ {M : Type 1} (𝓤 : URA M) (H : Heap 𝓤) (A : Atoms 𝓤) (W : Given
         assigns ! (of-opd ! (load ! (from ! (hop ! (look ! 15 refl) (fld ! refl (stop !)))) (look-in ! 0 (sub ! 1 refl (whole !))))) (from ! (stop !)) (init ! 9 refl (tt, typed g .1 .1 .0)) $
         move ! (1 ∷ 5 ∷ []) $ use2 W (raw (ReadAt 𝓤 H A at-mem run .pre to-read) ⊛ ‵ Own) (apart (typed g .1 .1 .0 .fits)) $ split ! $
         calls-at ! fm (ReadAt 𝓤 H A at-mem run) known-read to-read (and-then ! (load ! (from ! (stop !)) (look ! 11 refl)) (and-then ! (load ! (from ! (stop !)) (look ! 9 refl)) (no-more !))) (λ u.
-        use1 W (later (some (λ (found : Number). ((‵ (flft κ′ q′) ⊛ ‵ ftrue) ⊛ ‵ (N.the-row .own found (u ∷ []))) ⊛ raw (ensured 𝓤 H A read.ended (read.clauses 𝓤 H A at-mem run) (κ′, tt) (reader .file, (reader .at, tt)) tt found)))) (id⊢ 𝓤 _) $ await ! tt $ pick ! (λ found.
+        use1 W (later (some (λ (found : Report). ((‵ (flft κ′ q′) ⊛ ‵ ftrue) ⊛ ‵ (N.the-row .own found (u ∷ []))) ⊛ raw (ensured 𝓤 H A read.ended (read.clauses 𝓤 H A at-mem run) (κ′, tt) (reader .file, (reader .at, tt)) tt found)))) (id⊢ 𝓤 _) $ await ! tt $ pick ! (λ found.
         split ! $ move ! (1 ∷ []) $ use1 W (raw (fact 𝓤 (Answers found))) (answered found) $ heard ! (Answers found) (λ e. split ! $ move ! (1 ∷ []) $
         peeks ! N.the-row (Is N.the-row) (shows 𝓤 H A N.the-row) found (u ∷ []) (λ is.
         -- [the answer; 'a's token; what the reader owns; its cell; the open loan; its two names; _; room for _5; …; _4; …; _3; …; room for _2; …; _1; …; room for _0; …]

@@ -41,10 +41,8 @@ use denote.Triple.Spec.{Meets, tripleOf}
 use denote.Triple.Table.{entered, cited}
 use denote.Triple.Walked.{says, Stays, stay-none, stay-none-slice, walkOf, goes-none, goes-none-slice, Walks, ends-at, walked, walk-meets}
 use denote.Exit.{yes}
-use Rattle.number.specs.declared.Number.{Number}
-use Rattle.number.specs.Reading.{readAt}
-use Rattle.number.specs.Finding.{finds}
-use Rattle.number.proofs.Number as N
+use Rattle.number.specs.declared.Report.{Report}
+use Rattle.number.proofs.Report as N
 use Rattle.inspector.specs.declared.Inspector.{Inspector}
 use Rattle.inspector.specs.declared.step.Step.{Step}
 use Rattle.inspector.specs.Reader.{steppedBy, stepAt, StepPromise}
@@ -134,17 +132,17 @@ module _ {M : Type 1} (𝓤 : URA M) (H : Heap 𝓤) (A : Atoms 𝓤) (W : Given
   at-said moved byte = exE 𝓤 _ (λ ws. snd∗ 𝓤 (sem 𝓤 H A (lasts at.ended (κ, tt) (moved, tt) ws)) (fact 𝓤 (byte ≡ moved .at)))
 
   -- the result, its machine value, and that the one is the other's
-  abbrev result : Number → ℕ → Step
-  result found byte = record { found = found; at = byte }
+  abbrev result : Report → ℕ → Step
+  result found byte = record { report = found; at = byte }
 
   abbrev mach : Val → ℕ → Val
   mach u byte = vstruct (vcons u (vcons (vint w64 byte) vnil))
 
-  is-result : (found : Number) (u : Val) (byte : ℕ) → Is N.the-row found (u ∷ []) → byte < 2 ^ 64 → Is S.the-row (result found byte) (mach u byte ∷ [])
+  is-result : (found : Report) (u : Val) (byte : ℕ) → Is N.the-row found (u ∷ []) → byte < 2 ^ 64 → Is S.the-row (result found byte) (mach u byte ∷ [])
   is-result found u byte is fits = ((u ∷ [], (vint w64 byte ∷ [], tt)), (refl, (is, ((refl, fits), tt))))
 
   -- what is had at the end is enough for the exit
-  exits : (found : Number) (u : Val) (byte : ℕ) → Is S.the-row (result found byte) (mach u byte ∷ []) → start < 2 ^ 64 → steppedBy (result found byte) ≡ stepAt (now file) start
+  exits : (found : Report) (u : Val) (byte : ℕ) → Is S.the-row (result found byte) (mach u byte ∷ []) → start < 2 ^ 64 → steppedBy (result found byte) ≡ stepAt (now file) start
       → ent 𝓤 (⋆ 𝓤 H A ((‵ (flft κ q) ⊛ ‵ ftrue) ∷ ‵ Own ∷ [])) (Post (mach u byte))
   exits found u byte is fits e =
       qed W ((‵ (flft κ q) ⊛ ‵ ftrue) ∷ ‵ Own ∷ []) ∵
@@ -169,7 +167,7 @@ module _ {M : Type 1} (𝓤 : URA M) (H : Heap 𝓤) (A : Atoms 𝓤) (W : Given
         fsplit3 ! $ use2 W (raw (Steps 𝓤 H A mem run .pre (to-step l₃ ν γ))) (goes-step l₃ ν γ) $
         -- [what `step` asks; what is kept; what the file owns; room for _7; …; room for _6; …; _5; …; room for _4; …; … of _3; _2; …; _1; …; room for _0; …]
         calls-at ! fm (Steps 𝓤 H A mem run) known-step (to-step l₃ ν γ) (and-then ! (load ! (from ! (stop !)) (look ! 7 refl)) (no-more !)) (λ u.
-        use1 W (later (some (λ (found : Number). (‵ (Tokens κ q l₃ ν) ⊛ ‵ (N.the-row .own found (u ∷ []))) ⊛ raw (ensured 𝓤 H A step.ended (step.clauses 𝓤 H A mem run)
+        use1 W (later (some (λ (found : Report). (‵ (Tokens κ q l₃ ν) ⊛ ‵ (N.the-row .own found (u ∷ []))) ⊛ raw (ensured 𝓤 H A step.ended (step.clauses 𝓤 H A mem run)
         (ν ∷ κ, (κ, tt)) (to l₃ γ reader, tt) tt found)))) (id⊢ 𝓤 _) $ await ! tt $ pick ! (λ found.
         split ! $ move ! (1 ∷ []) $
         use1 W (some (λ (ws : Inspector × Unit {0}). ‵ (lasts step.ended (ν ∷ κ, (κ, tt)) (to l₃ γ reader, tt) ws) ⊛ raw (fact 𝓤 (StepPromise reader found (ws .0))))) (id⊢ 𝓤 _) $ pick ! (λ ws.
@@ -194,7 +192,7 @@ module _ {M : Type 1} (𝓤 : URA M) (H : Heap 𝓤) (A : Atoms 𝓤) (W : Given
         returns ! (look ! 16 refl) $ forget ! 1 refl $ forget ! 3 refl $ forget ! 5 refl $ forget ! 7 refl $ forget ! 9 refl $ forget ! 12 refl $ forget ! 14 refl $ forget ! 16 refl $
         move ! (16 ∷ 17 ∷ []) $ free1 ! $ move ! (14 ∷ 15 ∷ []) $ free1 ! $ move ! (12 ∷ 13 ∷ []) $ free1 ! $ move ! (1 ∷ 11 ∷ []) $ free1 ! $ move ! (8 ∷ 9 ∷ []) $ free1 ! $ move ! (6 ∷ 7 ∷ []) $
         free1 ! $ move ! (4 ∷ 5 ∷ []) $ free1 ! $ move ! (2 ∷ 3 ∷ []) $ free1 ! $ free0 ! $
-        by ! (exits found u byte (is-result found u byte is (is′ .1)) fits (λ i. record { found = e .found i; at = (e″ ∙ ap (λ (z : Inspector). z .at) (e .moved)) i }))))))))))))))))))))))
+        by ! (exits found u byte (is-result found u byte is (is′ .1)) fits (λ i. record { found = e .reported .number i; offset = e .reported .offset i; at = (e″ ∙ ap (λ (z : Inspector). z .at) (e .moved)) i }))))))))))))))))))))))
 
 module _ {M : Type 1} (𝓤 : URA M) (H : Heap 𝓤) (A : Atoms 𝓤) (W : Given 𝓤 H A) (mem : Memory → SProp 𝓤) (run : Routine → Fun 𝓤) where
   step-at-walks : (C : Calls 𝓤 H) (Λ : Loops 𝓤 H) → FmC 𝓤 H (W .laws) C → Triple 𝓤 (C #inspector·step) (Steps 𝓤 H A mem run) → Triple 𝓤 (C #inspector·at) (At 𝓤 H A mem run)

@@ -4,10 +4,10 @@ use mathlib.Core.List.{flatMap}
 use native.Mathlib.Omega.{arith}
 use lib.ListN.{length, take}
 use borrow.Author.Needs.{needs}
-use Rattle.output.specs.Lines.{allSpaced, textLine}
+use Rattle.output.specs.Lines.{spaced, allSpaced, textLine}
 use Rattle.output.specs.Put.{Put}
 use Rattle.output.proofs.Putting.{put-length, put-nothing, put-then}
-use Rattle.output.proofs.LineByLine.{number-more, numbers-all}
+use Rattle.output.proofs.LineByLine.{one-more, all-put}
 use Rattle.output.proofs.lines.put_line.Statement.{statement}
 use Rattle.output.proofs.lines.put_line.Tie as tie
 
@@ -43,7 +43,7 @@ loop-less c = omega arith
 loop-again : tie.Need-loop-again Inv-loop μ-loop
 loop-again c =
     let l = c .before .before .before .before .before .before .loop in
-    (omega arith, number-more (c .before .before .before .before .before .before .before .before .before .before .before .before .before .before .args .numbers .now) (l .n) (omega arith) (l .inv .1) (c .before .before .put-spaced .ensures))
+    (omega arith, one-more spaced (c .before .before .before .before .before .before .before .before .before .before .before .before .before .before .args .numbers .now) (l .n) (omega arith) (l .inv .1) (c .before .before .put-spaced .ensures))
 
 put-byte-requires : tie.Need-put-byte-requires Inv-loop μ-loop
 put-byte-requires c κs = search needs
@@ -51,7 +51,7 @@ put-byte-requires c κs = search needs
 returns : tie.Need-returns Inv-loop μ-loop
 unfolding textLine
 returns c =
-    let numbers = numbers-all (c .before .before .before .before .before .before .before .before .before .before .before .before .before .args .numbers .now) (c .before .before .before .before .before .loop .n) (omega arith) (c .before .before .before .before .before .loop .inv .1) in
+    let numbers = all-put spaced (c .before .before .before .before .before .before .before .before .before .before .before .before .before .args .numbers .now) (c .before .before .before .before .before .loop .n) (omega arith) (c .before .before .before .before .before .loop .inv .1) in
     put-then (put-then (c .before .before .before .before .before .before .before .before .put-words .ensures) numbers) (c .before .before .put-byte .ensures)
 
 same-length : tie.Need-same-length Inv-loop μ-loop

@@ -25,7 +25,7 @@ returns-2 c =
     let told = c .before .before in
     let a = told .before .before .args in
     rw (told .enum-told .given .1, c .refused .ensures)
-    (sym (plants-short (a .plants) (a .segments) (a .plant-table) (a .segment-table) (c .before .if1 .taken)))
+    (sym (plants-short (a .plants) (a .segments) (a .plant-table) (a .segment-table) (a .bytes) (c .before .if1 .taken)))
 
 mul-segments-need : tie.Need-mul-segments-need
 mul-segments-need c = search needs
@@ -38,13 +38,13 @@ returns-3 c =
     let told = c .before .before .before in
     let a = told .before .before .args in
     rw (told .enum-told .given .1, c .refused2 .ensures)
-    (sym (segments-short (a .plants) (a .segments) (a .plant-table) (a .segment-table) (c .before .before .if1 .left) (c .before .if2 .taken)))
+    (sym (segments-short (a .plants) (a .segments) (a .plant-table) (a .segment-table) (a .bytes) (c .before .before .if1 .left) (c .before .if2 .taken)))
 
 returns-4 : tie.Need-returns-4
 returns-4 c =
     let told = c .before .before in
     let a = told .before .before .args in
-    rw (told .enum-told .given .1) (sym (both-enough (a .plants) (a .segments) (a .plant-table) (a .segment-table) (c .before .if1 .left) (c .if2 .left)))
+    rw (told .enum-told .given .1) (sym (both-enough (a .plants) (a .segments) (a .plant-table) (a .segment-table) (a .bytes) (c .before .if1 .left) (c .if2 .left)))
 
 pub answer-with-tables-spec : {M : Type 1} → statement M
 answer-with-tables-spec =

@@ -24,14 +24,14 @@ unfolding headerOf
 returns c =
     let file = now (c .before .before .before .before .before .args .file) in
     let came = rw (c .before .-refusal .given .1) at (c .before .before .before .read-header .ensures) in
-    sym (ap telling (reads-as file (omega arith) header firstSpot (first-counted file) ∙ ap (asRead file) (sym came)))
+    sym (ap telling (reads-as file (omega arith) header firstSpot (first-counted file) ∙ ap asRead (sym came)))
 
 returns-2 : tie.Need-returns-2
 unfolding headerOf
 returns-2 c =
     let file = now (c .before .before .before .before .before .args .file) in
     let came = rw (c .before .counts .given .1) at (c .before .before .before .read-header .ensures) in
-    sym (ap telling (reads-as file (omega arith) header firstSpot (first-counted file) ∙ ap (asRead file) (sym came)))
+    sym (ap telling (reads-as file (omega arith) header firstSpot (first-counted file) ∙ ap asRead (sym came)))
 
 pub header-of-spec : {M : Type 1} → statement M
 header-of-spec =

@@ -10,6 +10,7 @@ use borrow.Author.Needs.{needs}
 use Rattle.fields.specs.declared.reason.Reason.{Reason}
 use Rattle.fields.specs.Reasons.{numberOf}
 use Rattle.fields.specs.Spots.{firstSpot}
+use Rattle.fields.specs.Answers.{notice}
 use Rattle.fields.specs.Reaching.{stopped, stoppedBy}
 use Rattle.fields.proofs.Takes.{value-there, fault-there}
 use Rattle.fields.proofs.OneRecord.{Numbers, none-taken, next-faulty, next-wrong, next-taken, all-taken}
@@ -70,7 +71,7 @@ returns-2 c =
     (next-wrong (l .inv) headerReasons header-wants refl (omega arith) (v .0 .0) (v .0 .1 .0)
     (value-there file (l .at) (taken .result) (v .0 .0) (v .0 .1 .0) (taken .ensures) (v .1))
     (sym (t .before .allows .ensures (take (l .f) (l .values)) sized) ∙ not-true (t .before .allows .result) (t .if1 .taken))
-    ∙ ap (λ (r : Reason). stopped (numberOf r) (l .at .place)) (header-reason (l .f) (omega arith) ∙ sym (c .before .reason .ensures)))
+    ∙ ap (λ (r : Reason). stopped (notice (numberOf r) (l .at .place) (l .at .byte))) (header-reason (l .f) (omega arith) ∙ sym (c .before .reason .ensures)))
 
 mul-values : tie.Need-mul-values Inv-loop μ-loop
 mul-values c = search needs

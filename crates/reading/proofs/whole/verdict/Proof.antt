@@ -51,7 +51,7 @@ returns c =
     let header = c .before .before .before in
     let file = now (header .before .before .args .file) in
     let r = c .before .refusal .given in
-    refusal-says file (r .0 .0) (header-stopped file (omega arith) _ _ (sym (rw (r .1) at (header .read-header .ensures))))
+    refusal-says file (r .0 .0) (header-stopped file (omega arith) _ (sym (rw (r .1) at (header .read-header .ensures))))
 
 returns-2 : tie.Need-returns-2
 returns-2 c =
@@ -64,7 +64,7 @@ returns-2 c =
     let r = c .before .refusal2 .given in
     refusal-says file (r .0 .0)
     (plants-stopped file (omega arith) (h .0 .0) (h .0 .1 .0) counts-read
-    _ _ (rw (r .1) at (plants .pass-plants .ensures)))
+    _ (rw (r .1) at (plants .pass-plants .ensures)))
 
 returns-3 : tie.Need-returns-3
 returns-3 c =
@@ -81,7 +81,7 @@ returns-3 c =
     refusal-says file (r .0 .0)
     (segments-stopped file (omega arith) (h .0 .0) (h .0 .1 .0) counts-read
     (plants-read .0) (plants-told .first-segment .given .0 .0) (plants-read .1)
-    _ _ (rw (r .1) at (segments .pass-segments .ensures)))
+    _ (rw (r .1) at (segments .pass-segments .ensures)))
 
 returns-4 : tie.Need-returns-4
 returns-4 c =
@@ -102,7 +102,7 @@ returns-4 c =
     (lines-stopped file (omega arith) (h .0 .0) (h .0 .1 .0) counts-read
     (plants-read .0) (plants-told .first-segment .given .0 .0) (plants-read .1)
     (segments-read .0) (segments-told .first-line .given .0 .0) (segments-read .1)
-    _ _ (rw (r .1) at (lines .pass-lines .ensures)))
+    _ (rw (r .1) at (lines .pass-lines .ensures)))
 
 returns-5 : tie.Need-returns-5
 returns-5 c =

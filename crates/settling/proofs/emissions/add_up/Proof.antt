@@ -5,6 +5,7 @@ use native.Mathlib.Omega.{arith}
 use lib.ListN.{replicate}
 use denote.Ref.{now}
 use borrow.Author.Needs.{needs}
+use Rattle.fields.specs.Spots.{firstSpot}
 use Rattle.fields.specs.Reaching.{readsFrom, whole}
 use Rattle.records.specs.declared.line.Line.{Line}
 use Rattle.reading.specs.Found.{lineFound}
@@ -42,7 +43,7 @@ module _ (c : tie.After-known-told2 Inv-loop μ-loop) where
   came = sym (found .read-line .ensures) ∙ ap lineFound (c .before .line .given .1)
 
   fits : LineWithin mostCounts 1 one
-  fits = line-fits (now (start found .args .file)) (loop found .loop .at) (start found .args .counts) one _ (start found .pre) came
+  fits = line-fits (now (start found .args .file)) (loop found .loop .at) (start found .args .counts) one _ (start found .pre .0) came
 
 -- with the place of its owner's total
 owner : (c : tie.After-place-of Inv-loop μ-loop) → Owner (one (c .before) .«owner_kind») (one (c .before) .owner) (c .place-of .result)
@@ -54,7 +55,7 @@ module _ (c : tie.After-nothing-after Inv-loop μ-loop) where
   at-end = c .before .before .before
 
   abbrev counts-within : CountsWithin (at-end .before .before .before .args .counts)
-  counts-within = at-end .before .before .before .pre
+  counts-within = at-end .before .before .before .pre .0
 
 -- ---- the needs
 none-requires : tie.Need-none-requires Inv-loop μ-loop
@@ -63,7 +64,8 @@ none-requires c κs = search needs
 loop-holds : tie.Need-loop-holds Inv-loop μ-loop
 loop-holds c =
     let a = c .before .before .args in
-    subst (λ (x : Totals). AddingUp (now (a .file)) (a .start) (a .counts) (replicate owners x) 0 (a .start) 0) (sym (c .none .ensures)) (none-added (now (a .file)) (a .start) (a .counts))
+    subst (λ (x : Totals). AddingUp (now (a .file)) (a .start) (a .counts) (replicate owners x) firstSpot (a .start) 0) (sym (c .none .ensures))
+    (none-added (now (a .file)) (a .start) (a .counts) (c .before .before .pre .1))
 
 read-line-requires : tie.Need-read-line-requires Inv-loop μ-loop
 read-line-requires c κs = search needs
@@ -102,8 +104,8 @@ mul-totals c = omega (arith, place-below (owner (c .before .before)))
 array-set-from-totals : tie.Need-array-set-from-totals Inv-loop μ-loop
 array-set-from-totals c = place-below (owner (c .before .before))
 
-add-first-over : tie.Need-add-first-over Inv-loop μ-loop
-add-first-over c = omega arith
+add-own : tie.Need-add-own Inv-loop μ-loop
+add-own c = omega arith
 
 first-over-requires : tie.Need-first-over-requires Inv-loop μ-loop
 first-over-requires c κs = search needs
@@ -140,19 +142,22 @@ returns-2 c =
 enum-told : tie.Need-enum-told Inv-loop μ-loop
 enum-told c = search needs
 
+refusal-requires : tie.Need-refusal-requires Inv-loop μ-loop
+refusal-requires c κs = search needs
+
 refused-requires-3 : tie.Need-refused-requires-3 Inv-loop μ-loop
 refused-requires-3 c κs = search needs
 
 returns-3 : tie.Need-returns-3 Inv-loop μ-loop
 returns-3 c =
-    let told = c .before .before in
+    let told = c .before .before .before .before in
     let n = told .before .before in
-    rw (c .refused3 .ensures)
-    (limit-out (at-end n .loop .inv) (n .before .if1 .left) (n .nothing-after .result) (n .nothing-after .ensures) (told .enum-told .given .1) (omega (arith, c .before .if2 .taken)))
+    rw (c .refused3 .ensures, c .before .refusal2 .ensures)
+    (limit-out (at-end n .loop .inv) (n .before .if1 .left) (n .nothing-after .result) (n .nothing-after .ensures) (told .enum-told .given .1) (omega (arith, c .before .before .if2 .taken)))
 
 in-kg-requires : tie.Need-in-kg-requires Inv-loop μ-loop
 in-kg-requires c κs =
-    let told = c .before in
+    let told = c .before .before in
     let n = told .before .before in
     let within = counts-within n in (
       few-totals (at-end n .loop .inv) (n .before .if1 .left) (n .nothing-after .result) (n .nothing-after .ensures) (told .enum-told .given .1) (omega (arith, c .if2 .left)),
@@ -161,7 +166,7 @@ in-kg-requires c κs =
 
 in-kg-requires-2 : tie.Need-in-kg-requires-2 Inv-loop μ-loop
 in-kg-requires-2 c κs =
-    let told = c .before .before in
+    let told = c .before .before .before in
     let n = told .before .before in
     let within = counts-within n in (
       few-totals (at-end n .loop .inv) (n .before .if1 .left) (n .nothing-after .result) (n .nothing-after .ensures) (told .enum-told .given .1) (omega (arith, c .before .if2 .left)),
@@ -170,7 +175,7 @@ in-kg-requires-2 c κs =
 
 returns-4 : tie.Need-returns-4 Inv-loop μ-loop
 returns-4 c =
-    let told = c .before .before .before in
+    let told = c .before .before .before .before in
     let n = told .before .before in
     all-added (at-end n .loop .inv) (n .before .if1 .left) (n .nothing-after .result) (n .nothing-after .ensures) (told .enum-told .given .1) (omega (arith, c .before .before .if2 .left))
     _ _ (counts-within n) (c .before .in-kg .ensures) (c .in-kg2 .ensures)
@@ -194,7 +199,7 @@ add-up-spec =
     with-requires
     mul-totals
     array-set-from-totals
-    add-first-over
+    add-own
     first-over-requires
     add-l
     loop-less
@@ -204,6 +209,7 @@ add-up-spec =
     refused-requires-2
     returns-2
     enum-told
+    refusal-requires
     refused-requires-3
     returns-3
     in-kg-requires

@@ -14,7 +14,7 @@ refused-requires c κs = search needs
 returns : tie.Need-returns
 returns c =
     let a = c .before .before .args in
-    rw (c .refused .ensures) (inflow-refused (figures (a .own) (a .inflow) (a .outflow) (a .emission)) (c .before .if1 .taken))
+    rw (c .refused .ensures) (inflow-refused (a .bytes) (figures (a .own) (a .inflow) (a .outflow) (a .emission)) (c .before .if1 .taken))
 
 refused-requires-2 : tie.Need-refused-requires-2
 refused-requires-2 c κs = search needs
@@ -22,7 +22,7 @@ refused-requires-2 c κs = search needs
 returns-2 : tie.Need-returns-2
 returns-2 c =
     let a = c .before .before .before .args in
-    rw (c .refused2 .ensures) (outflow-refused (figures (a .own) (a .inflow) (a .outflow) (a .emission)) (c .before .before .if1 .left) (c .before .if2 .taken))
+    rw (c .refused2 .ensures) (outflow-refused (a .bytes) (figures (a .own) (a .inflow) (a .outflow) (a .emission)) (c .before .before .if1 .left) (c .before .if2 .taken))
 
 refused-requires-3 : tie.Need-refused-requires-3
 refused-requires-3 c κs = search needs
@@ -31,13 +31,13 @@ returns-3 : tie.Need-returns-3
 returns-3 c =
     let a = c .before .before .before .before .before .args in
     rw (c .refused3 .ensures)
-    (emission-refused (figures (a .own) (a .inflow) (a .outflow) (a .emission))
+    (emission-refused (a .bytes) (figures (a .own) (a .inflow) (a .outflow) (a .emission))
     (c .before .before .before .before .if1 .left) (c .before .before .before .if2 .left) (c .before .before .if3 .taken) (eqb-true (a .inflow) 0 (c .before .if4 .taken)))
 
 returns-4 : tie.Need-returns-4
 returns-4 c =
     let a = c .before .before .before .args in
-    segment-passes (figures (a .own) (a .inflow) (a .outflow) (a .emission)) (c .before .before .if1 .left) (c .before .if2 .left)
+    segment-passes (a .bytes) (figures (a .own) (a .inflow) (a .outflow) (a .emission)) (c .before .before .if1 .left) (c .before .if2 .left)
     (⊎-elim (λ some. inr (above-none (a .inflow) (some .1 .left))) (λ none. inl (none .left)) (c .if3 .came))
 
 pub test-spec : {M : Type 1} → statement M

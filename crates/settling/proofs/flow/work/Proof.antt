@@ -41,7 +41,7 @@ module _ (t : tie.After-test) where
   next-there : due .segment .next - 1 < mostSegments
   next-there = next-below (suc (due .index)) (due .segment) (start .pre .1 .1 .0)
 
-  tests-here : Passes (said (t .test .result)) (segmentTests (accountBy plants due books ∷ []))
+  tests-here : Passes (said (t .test .result)) (segmentTests (due .bytes) (accountBy plants due books ∷ []))
   tests-here = own-tests plants due books (t .test .result) (t .before .inflow-of .ensures) (t .test .ensures)
 
   -- no test failed
@@ -66,7 +66,7 @@ enum-known-answer c = search needs
 returns : tie.Need-returns
 returns c =
     let t = c .before .before .before in
-    let tests : Answer → Type 0 = λ a. Passes (said a) (segmentTests (accountBy (plants t) (due t) (books t) ∷ [])) in
+    let tests : Answer → Type 0 = λ a. Passes (said a) (segmentTests (due t .bytes) (accountBy (plants t) (due t) (books t) ∷ [])) in
     record { tests = subst tests (c .before .answer .given .1) (tests-here t); moved = λ is. absurd (refused-not-accepted is) }
 
 enum-told : tie.Need-enum-told

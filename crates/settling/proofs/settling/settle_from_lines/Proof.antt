@@ -4,14 +4,18 @@ use denote.Ref.{now}
 use borrow.Author.Needs.{needs}
 use Rattle.fields.specs.Spots.{firstSpot}
 use Rattle.records.proofs.RecordsWithin.{header-within}
-use Rattle.settling.proofs.Answering.{lines-out, settle-fits, settled-whole}
+use Rattle.settling.proofs.Answering.{first-line, lines-out, settle-fits, settled-whole}
 use Rattle.settling.proofs.settling.settle_from_lines.Statement.{statement}
 use Rattle.settling.proofs.settling.settle_from_lines.Tie as tie
 
 add-up-requires : tie.Need-add-up-requires
 add-up-requires c κs =
-    let before = c .before .pre .before in
-    header-within (now (c .before .args .file)) firstSpot (c .before .args .counts) (before .first) (before .header-read)
+    let a = c .before .args in
+    let past = c .before .pre in
+    let before = past .before in (
+      header-within (now (a .file)) firstSpot (a .counts) (before .first) (before .header-read),
+      first-line (now (a .file)) (omega arith) (a .counts) (a .plants) (a .segments) (a .start) past,
+    )
 
 enum-known-answer : tie.Need-enum-known-answer
 enum-known-answer c = search needs

@@ -127,11 +127,11 @@ segment-accounts-requires c κs =
     let l = c .before .before .before .before in
     segments-counted (start-of (l .before) .pre) (l .before .loop .inv) (l .loop-test .left)
 
-cast-t46 : tie.Need-cast-t46 Inv-loop μ-loop
-cast-t46 c = omega (arith, start-of (c .before .before .before .before) .pre .counts-within .most-plants)
-
 cast-t47 : tie.Need-cast-t47 Inv-loop μ-loop
-cast-t47 c = omega (arith, start-of (c .before .before .before .before) .pre .counts-within .most-segments)
+cast-t47 c = omega (arith, start-of (c .before .before .before .before) .pre .counts-within .most-plants)
+
+cast-t48 : tie.Need-cast-t48 Inv-loop μ-loop
+cast-t48 c = omega (arith, start-of (c .before .before .before .before) .pre .counts-within .most-segments)
 
 returns-2 : tie.Need-returns-2 Inv-loop μ-loop
 returns-2 c =
@@ -163,8 +163,8 @@ settle-period-spec =
     loop-less
     loop-again
     associated-with-requires
-    cast-t46
     cast-t47
+    cast-t48
     plant-accounts-requires
     segment-accounts-requires
     returns-2)
