@@ -4,8 +4,8 @@ ghost use lib.ListN.{length, take};
 ghost use Rattle.output.specs.Put.{Put, Holds};
 ghost use Rattle.output.specs.HandedOver.{HandedOver};
 ghost use Rattle.days.specs.Printed.{figuresText, printedDays, mostDaysText};
+use fields::Answer;
 use meter::Figures;
-use meter::MeterDays;
 use meter::days;
 use output::print;
 use output::put_line;
@@ -29,10 +29,13 @@ fn put_answer(room: &mut [u8], bytes: usize) -> usize
     requires { ⌜ mostDaysText ≤ length (now room) ⌝ }
     ensures { λ r. ⌜ Holds (printedDays (take bytes (now (room .entry)))) r (now (room .exit)) ⌝ }
 {
-    match days(&room[..bytes]) {
-        MeterDays::Counted(figures) => put_figures(room, figures),
-        MeterDays::Refused(refusal) => put_refusal(room, 0, refusal),
+    let found = days(&room[..bytes]);
+    let answer = found.answer;
+    if let Answer::Refused(refusal) = answer {
+        return put_refusal(room, 0, refusal);
     }
+    let figures = found.figures;
+    put_figures(room, figures)
 }
 
 // Puts the line of the five figures: the sum, and behind it those of days, in the order of rules 12.2 to 12.6.

@@ -1,10 +1,10 @@
 -- `days::answer::put_answer` meets its contract: the figures that the call counted, or the line of its refusal, and there is room for them. Assumes
 -- nothing.
-use mathlib.Core.Path.{sym, ap, _∙_}
+use mathlib.Core.Path.{sym}
 use native.Mathlib.Omega.{arith}
 use lib.Seq.{length-take-le}
 use borrow.Author.Needs.{needs}
-use Rattle.meter.specs.Days.{daysTold}
+use Rattle.meter.proofs.Answered.{told-refused, told-counted}
 use Rattle.days.proofs.TextRoom.{held}
 use Rattle.days.proofs.answer.put_answer.Statement.{statement}
 use Rattle.days.proofs.answer.put_answer.Tie as tie
@@ -18,14 +18,8 @@ slice-aggregate-days c = sym (length-take-le _ _ (omega arith))
 days-requires : tie.Need-days-requires
 days-requires c κs = search needs
 
-enum-known-figures : tie.Need-enum-known-figures
-enum-known-figures c = search needs
-
-put-figures-requires : tie.Need-put-figures-requires
-put-figures-requires c κs = search needs
-
-enum-known-refusal : tie.Need-enum-known-refusal
-enum-known-refusal c = search needs
+enum-known-answer : tie.Need-enum-known-answer
+enum-known-answer c = search needs
 
 put-refusal-requires : tie.Need-put-refusal-requires
 put-refusal-requires c κs = search needs
@@ -35,18 +29,27 @@ same-length c = search needs
 
 returns : tie.Need-returns
 returns c =
-    let told = sym (c .before .before .before .before .before .before .before .days .ensures) ∙ ap daysTold (c .before .before .before .before .before .figures .given .1) in
     let a = c .before .before .before .before .before .before .before .before .before .before in
-    held (a .args .room .now) (a .args .bytes) (rw told (c .before .before .put-figures .ensures)) (a .pre .1)
+    let found = c .before .before .before .before .before .before .before .days in
+    let why = c .before .before .before .before .before .answer .given in
+    let told = told-refused (found .result) _ (found .ensures) (why .0 .0) (why .1) in
+    held (a .args .room .now) (a .args .bytes) (rw (← told) (c .before .before .put-refusal .ensures)) (a .pre .1)
+
+enum-told : tie.Need-enum-told
+enum-told c = search needs
+
+put-figures-requires : tie.Need-put-figures-requires
+put-figures-requires c κs = search needs
 
 same-length-2 : tie.Need-same-length-2
 same-length-2 c = search needs
 
 returns-2 : tie.Need-returns-2
 returns-2 c =
-    let told = sym (c .before .before .before .before .before .before .before .days .ensures) ∙ ap daysTold (c .before .before .before .before .before .refusal .given .1) in
     let a = c .before .before .before .before .before .before .before .before .before .before in
-    held (a .args .room .now) (a .args .bytes) (rw told (c .before .before .put-refusal .ensures)) (a .pre .1)
+    let found = c .before .before .before .before .before .before .before .days in
+    let told = told-counted (found .result) _ (found .ensures) (c .before .before .before .before .before .enum-told .given .1) in
+    held (a .args .room .now) (a .args .bytes) (rw (← told) (c .before .before .put-figures .ensures)) (a .pre .1)
 
 pub put-answer-spec : {M : Type 1} → statement M
 put-answer-spec =
@@ -55,11 +58,11 @@ put-answer-spec =
     slice-reshare-prefix-days
     slice-aggregate-days
     days-requires
-    enum-known-figures
-    put-figures-requires
-    enum-known-refusal
+    enum-known-answer
     put-refusal-requires
     same-length
     returns
+    enum-told
+    put-figures-requires
     same-length-2
     returns-2)
