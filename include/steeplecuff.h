@@ -126,7 +126,7 @@ enum steeplecuff_answer {
  */
 
 /*
- * Works out one period (rules 10.1 to 10.6). Answers one of steeplecuff_answer and sets *place and *offset: to 0 if the
+ * Works out one period (rules 10.1 to 10.8). Answers one of steeplecuff_answer and sets *place and *offset: to 0 if the
  * file is accepted, else to the place and the byte of the fault.
  *
  * In:   file[0 .. file_len - 1], the period file. It is only read; every content and length is answered.
@@ -147,8 +147,8 @@ uint32_t steeplecuff_quantify(const uint8_t *file, size_t file_len, uint8_t *pla
                               uint8_t *segments, size_t segments_len, uint64_t *place, uint64_t *offset);
 
 /*
- * Works out one meter's sheet (rules 12.1 to 12.9). Answers one of steeplecuff_answer and sets *place and *offset: to 0
- * if the sheet is accepted, else to the place and the byte of the fault.
+ * Works out one meter's sheet (rules 12.1 to 12.9 and 12.12). Answers one of steeplecuff_answer and sets *place and
+ * *offset: to 0 if the sheet is accepted, else to the place and the byte of the fault.
  *
  * In:   sheet[0 .. sheet_len - 1], the sheet: numbers written as in a period file, first the count of days, 1 to
  *       STEEPLECUFF_MOST_DAYS, then for each day its reading in kg, and nothing behind the last. It is only read; every

@@ -9,7 +9,7 @@ use lib.ListN.{length}
 use lib.Dec.{ltb}
 use borrow.Author.Tests.{ltb-false}
 use Rattle.number.specs.Groups.{radix, largest}
-use Rattle.number.specs.Reading.{readAt, offsetAt, tooLarge}
+use Rattle.number.specs.Reading.{readAt, tooLarge}
 use Rattle.number.specs.Reading.Found.{number as oneNumber}
 use Rattle.number.proofs.Laws.{bounds, faults}
 use Rattle.number.proofs.Writing.{few-bytes}

@@ -1,18 +1,17 @@
 -- Where reading stands in a file: behind as many numbers as the place says, there starts the next; so the place of a refusal of reading gives its
 -- offset (rule 8.9), and the bytes before the first extra one are a whole file.
-use Prim.Native.Nat.{ℕ, suc, _≤_}
-use mathlib.Core.Path.{_≡_, refl, sym, ap, ap₂, _∙_}
+use Prim.Native.Nat.{ℕ, _≤_}
+use mathlib.Core.Path.{_≡_, refl, sym, ap, _∙_}
 use mathlib.Core.Bool.{Bool, true, false, cond, true≢false}
 use mathlib.Core.List.{List, _++_}
 use native.Mathlib.Omega.{arith}
 use lib.Dec.{ltb}
 use lib.ListN.{length, take, drop, length-take, take-append-drop}
 use lib.Seq.{take-take}
-use Rattle.number.specs.Reading.{readAt, offsetAt, tooLarge}
-use Rattle.number.specs.Reading.Found.{number as oneNumber}
+use Rattle.number.specs.Reading.{readAt, offsetAt}
 use Rattle.number.specs.Counting.{startOf}
 use Rattle.number.proofs.Laws.{bounds, only-its-bytes}
-use Rattle.number.proofs.Counting.{first-start, next-start, start-told, starts-inside}
+use Rattle.number.proofs.Counting.{first-start, next-start, start-told}
 use Rattle.fields.specs.declared.reason.Reason.{Reason}
 use Rattle.fields.specs.declared.reason.Reason.the-variants.{BytesAfter}
 use Rattle.fields.specs.Reasons.{numberOf}

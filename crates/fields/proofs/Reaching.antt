@@ -1,4 +1,4 @@
--- A reader from a spot on: field by field, one reader after another, and what it is as a reading of the file's run.
+-- A reader from a spot on: field by field, one reader after another, and what it is as a reading of the file.
 use Prim.Native.Nat.{ℕ, suc, _^_, _≤_, _<_}
 use mathlib.Core.Path.{_≡_, refl, sym, ap, _∙_}
 use mathlib.Core.Bool.{Bool, true, false, cond}
@@ -12,7 +12,7 @@ use Rattle.fields.specs.declared.answer.Refusal.{Refusal}
 use Rattle.fields.specs.declared.reason.Reason.{Reason}
 use Rattle.fields.specs.declared.spot.Spot.{Spot}
 use Rattle.fields.specs.Reasons.{numberOf}
-use Rattle.fields.specs.Answers.{Notice, notice, noticeOf}
+use Rattle.fields.specs.Answers.{Notice, notice}
 use Rattle.fields.specs.Readers.{Reader, return, needs, _>>=_, Read, refused, reads}
 use Rattle.fields.specs.Files.{ended, fileRead}
 use Rattle.fields.specs.Spots.{firstSpot, placeAfter, Take, taking, takeAt}

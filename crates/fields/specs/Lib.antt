@@ -7,7 +7,7 @@ pub mod Answers
 pub mod Ranges
 pub mod Readers
 pub mod Files
--- its tests, each at its place
+-- its tests, each at its place and offset
 pub mod Tests
 -- a spot in it, what is taken there, and what a reader gives from there on
 pub mod Spots

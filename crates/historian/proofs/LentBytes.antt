@@ -84,7 +84,7 @@ module _ {file plants segments : List ℕ} {outcome : Outcome} (promised : Entry
   refused-exactly-bytes told some =
       let exactly = refused-exactly file (wholeNumbers plants) (wholeNumbers segments) told in (
         λ (result, place, offset).
-        exactly .0 (refusal-told ruling told some (sym (promised .result) ∙ result) (sym (promised .place) ∙ place) (sym (promised .offset) ∙ offset)),
+            exactly .0 (refusal-told ruling told some (sym (promised .result) ∙ result) (sym (promised .place) ∙ place) (sym (promised .offset) ∙ offset)),
         λ first. (
           promised .result ∙ ap (λ (a : Ruling). refusalNumber (rulingVerdict a)) (exactly .1 first),
           promised .place ∙ ap (λ (a : Ruling). refusalPlace (rulingVerdict a)) (exactly .1 first),

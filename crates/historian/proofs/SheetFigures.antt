@@ -30,8 +30,8 @@ module _ (sheet : List ℕ) (before : Figures) (outcome : DaysOutcome) (promised
   sheet-refused-exactly told some =
       let exactly = refused-exactly sheet told in (
         λ (result, place, offset).
-        exactly .0
-        (refusal-told (meterDays sheet) told some (sym (promised .result) ∙ result) (sym (promised .place) ∙ place) (sym (promised .offset) ∙ offset)),
+            exactly .0
+            (refusal-told (meterDays sheet) told some (sym (promised .result) ∙ result) (sym (promised .place) ∙ place) (sym (promised .offset) ∙ offset)),
         λ first. (
           promised .result ∙ ap (λ (a : SheetAnswer). refusalNumber (sheetVerdict a)) (exactly .1 first),
           promised .place ∙ ap (λ (a : SheetAnswer). refusalPlace (sheetVerdict a)) (exactly .1 first),

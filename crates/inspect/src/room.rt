@@ -17,8 +17,11 @@ const FAULT_SIGNS: usize = 7;
 const MARK: usize = 5;
 
 // The most bytes of a line of the page, and of the lines at its end together.
-pub(crate) const MOST_TEXT: usize =
-    MOST_FIELD_WORDS + MOST_SPACED * FAULT_NUMBERS + FAULT_SIGNS + BYTE_TEXT * Number::GROUPS + MARK;
+pub(crate) const MOST_TEXT: usize = MOST_FIELD_WORDS
+    + MOST_SPACED * FAULT_NUMBERS
+    + FAULT_SIGNS
+    + BYTE_TEXT * Number::GROUPS
+    + MARK;
 
 // How many of the longest texts there is room for, so that not every line is printed by itself.
 const TEXTS: usize = 10;

@@ -4,6 +4,7 @@ mod Lent
 pub mod Steps
 -- The numbers that reading takes: they are the period's, and a walk over the file gives them.
 pub mod AcceptedNumbers
+mod Endings
 mod WalkOverConsumed
 pub mod WalkOverFile
 pub mod CutFile

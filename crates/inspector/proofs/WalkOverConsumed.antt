@@ -6,14 +6,11 @@ use native.Mathlib.Decide.{decLe}
 use native.Mathlib.Omega.{arith}
 use lib.ListN.{length}
 use denote.Ref.{RefT, now}
-use Rattle.number.specs.Reading.{Found, number as oneNumber, fault as oneFault}
+use Rattle.number.specs.Reading.{Found, number as oneNumber}
 use Rattle.number.specs.Counting.{endOf, startOf, numberAt}
 use Rattle.number.proofs.Counting.{first-start, next-start, start-told}
-use Rattle.fields.specs.declared.reason.Reason.the-variants.{WrongEdition, WrongLine, BytesAfter}
-use Rattle.fields.specs.Answers.{Notice, notice}
-use Rattle.fields.specs.Readers.{Reader, needs, Read, read, refused, consumes}
+use Rattle.fields.specs.Readers.{Reader, Read, read, consumes}
 use Rattle.fields.specs.Files.{ended}
-use Rattle.fields.specs.Reasons.{numberOf}
 use Rattle.fields.proofs.FieldByField.{Comes, done as to-end, goes, fails, stops, goes-over}
 use Rattle.fields.proofs.Along.{Along, done, needed}
 use Rattle.fields.proofs.EndOfFile.{more-left, none-left}
@@ -23,17 +20,7 @@ use Rattle.records.proofs.PeriodAlong.{PeriodField, Placed, period-along}
 use Rattle.inspector.specs.declared.Inspector.{Inspector}
 use Rattle.inspector.specs.Reader.{stepped}
 use Rattle.inspector.specs.Walk.{Walks, there, step}
-
--- ---- how the reading of a file ends, after a count of numbers
-pub data Ending {A : Type 0} (file : List ℕ) (count : ℕ) : Read A → Type 0 where
-  -- all is read, and no bytes are left
-  all-read : {what : A} → length file ≤ startOf file count → Ending file count (read what count (startOf file count))
-  -- all is read, and bytes are left
-  bytes-left : startOf file count < length file → Ending file count (refused (notice (numberOf BytesAfter) count (startOf file count)))
-  -- the next number has a fault
-  has-fault : {refusal : ℕ} → numberAt file count ≡ oneFault refusal → Ending file count (refused (notice refusal count (startOf file count)))
-  -- the last number's value is refused
-  not-allowed : {refusal place : ℕ} → ((numberOf WrongEdition) ≤ refusal) × (refusal ≤ (numberOf WrongLine)) → count ≡ suc place → Ending file count (refused (notice refusal place (startOf file place)))
+use Rattle.inspector.proofs.Endings.{Ending, all-read, bytes-left, has-fault, not-allowed}
 
 -- ---- the walk over the numbers that reading takes from number k on
 -- A reader at a byte of a file.

@@ -1,7 +1,6 @@
 -- What a walk over a file gives: the numbers that the period's reading consumed, in order (rule 11.4). If the file is accepted, or refused after
--- reading, for 10 to 15, these are all. If it is refused for 1 to 9, a walk of as many steps as the place says
--- stands at the offset (rule 8.9): for 1, 2 or 3 it stops there with that fault; for 4 to 8 the refused number is the last of them; for 9 bytes are
--- left there.
+-- reading, for 10 to 15, these are all. If it is refused for 1 to 9, a walk of as many steps as the place says stands at the offset (rule 8.9): for 1,
+-- 2 or 3 it stops there with that fault; for 4 to 8 the refused number is the last of them; for 9 bytes are left there.
 use Prim.Native.Nat.{ℕ, zero, suc, _+_, _≤_, _<_}
 use mathlib.Core.Path.{_≡_, refl, sym, ap, _∙_}
 use mathlib.Core.Bool.{true≢false}
@@ -13,7 +12,7 @@ use lib.Seq.{length-take-le}
 use denote.Ref.{RefT, now}
 use Rattle.number.specs.Reading.{fault as oneFault, readAt, ends, tooLarge}
 use Rattle.number.specs.Counting.{startOf, numberAt, valueAt}
-use Rattle.number.proofs.Laws.{past-end, faults}
+use Rattle.number.proofs.Laws.{past-end}
 use Rattle.number.proofs.Counting.{first-start, value-is, starts-inside}
 use Rattle.fields.specs.declared.reason.Reason.the-variants.{WrongEdition, WrongLine, BytesAfter}
 use Rattle.fields.specs.Answers.{Notice}
@@ -30,7 +29,8 @@ use Rattle.inspector.specs.declared.Inspector.{Inspector}
 use Rattle.inspector.specs.Reader.{begun, findsNext, stepped}
 use Rattle.inspector.specs.Walk.{Walks, there, step, Walked, Stops}
 use Rattle.inspector.proofs.AcceptedNumbers.{accepted-consumed}
-use Rattle.inspector.proofs.WalkOverConsumed.{Ending, all-read, bytes-left, has-fault, not-allowed, atByte, atNumber, steps-on, period-walked}
+use Rattle.inspector.proofs.Endings.{Ending, read-ending, fault-ending, field-ending, after-ending, early-ending, offset-ending}
+use Rattle.inspector.proofs.WalkOverConsumed.{atByte, atNumber, steps-on, period-walked}
 
 -- ---- where a walk ends
 -- it begins where the first number starts
@@ -119,12 +119,7 @@ module _ (file : RefT (List ℕ)) where
   consumed-stops e = let walks = consumed-walked file .walks in stopped walks (stands walks) e
 
 -- ---- a file that is read to its end
--- if reading gives a period, no bytes are left
-read-ending :
-    {A : Type 0} {file : List ℕ} {count place at : ℕ} {what : A} → Ending file count (read what place at) → length file ≤ startOf file count
-read-ending (all-read h) = h
-
--- so the numbers that it consumed are all: the reader then stands at the end, where it finds fault 1
+-- the numbers that it consumed are all: the reader then stands at the end, where it finds fault 1
 pub read-walked :
     (file : RefT (List ℕ)) {what : Period} {place at : ℕ} → periodFile (now file) ≡ read what place at →
     Stops file (consumed (now file)) ends (length (now file))
@@ -154,44 +149,6 @@ pub accepted-numbers :
 accepted-numbers file given = rw (← accepted-consumed given) (accepted-walked file given)
 
 -- ---- a file that reading refuses
--- for 1, 2 or 3: there are as many numbers as its place says, and the next one has that fault
-fault-ending :
-    {A : Type 0} {file : List ℕ} {count : ℕ} {told : Notice} → told .number ≤ tooLarge → Ending {A = A} file count (refused told) →
-    (count ≡ told .place) × (numberAt file count ≡ oneFault (told .number))
-fault-ending most (bytes-left h) = absurd (omega (arith, most))
-fault-ending most (has-fault h) = (refl, h)
-fault-ending most (not-allowed its h) = absurd (omega (arith, most, its))
-
--- for 4 to 8: the number at its place is the last
-field-ending :
-    {A : Type 0} {file : List ℕ} {count : ℕ} {told : Notice} → numberOf WrongEdition ≤ told .number → told .number ≤ numberOf WrongLine →
-    Ending {A = A} file count (refused told) → count ≡ suc (told .place)
-field-ending least most (bytes-left h) = absurd (omega (arith, most))
-field-ending {file} {count} {told} least most (has-fault h) = absurd (omega (arith, least, faults file (startOf file count) (told .number) h .1))
-field-ending least most (not-allowed its h) = h
-
--- for 9: there are as many numbers as its place says, and bytes after them
-after-ending :
-    {A : Type 0} {file : List ℕ} {count : ℕ} {told : Notice} → told .number ≡ numberOf BytesAfter → Ending {A = A} file count (refused told) →
-    (count ≡ told .place) × (startOf file count < length file)
-after-ending nine (bytes-left h) = (refl, h)
-after-ending {file} {count} {told} nine (has-fault h) = absurd (omega (arith, nine, faults file (startOf file count) (told .number) h .1))
-after-ending nine (not-allowed its h) = absurd (omega (arith, nine, its))
-
--- and there is no other
-early-ending : {A : Type 0} {file : List ℕ} {count : ℕ} {told : Notice} → Ending {A = A} file count (refused told) → told .number ≤ numberOf BytesAfter
-early-ending (bytes-left h) = omega arith
-early-ending {file} {count} {told} (has-fault h) = omega (arith, faults file (startOf file count) (told .number) h .1)
-early-ending (not-allowed its h) = omega (arith, its)
-
--- in each case there are at least as many numbers as its place says, and its offset is where the next one starts
-offset-ending :
-    {A : Type 0} {file : List ℕ} {count : ℕ} {told : Notice} → Ending {A = A} file count (refused told) →
-    (told .place ≤ count) × (told .offset ≡ startOf file (told .place))
-offset-ending (bytes-left h) = (omega arith, refl)
-offset-ending (has-fault h) = (omega arith, refl)
-offset-ending (not-allowed its h) = (omega (arith, h), refl)
-
 -- the first steps of a walk are a walk
 first-steps :
     {reader last : Inspector} {values : List ℕ} (k : ℕ) → k ≤ length values → Walks reader values last →

@@ -1,8 +1,9 @@
--- The numbers that rules 1.3 and 1.4 name, and the faults of rule 1.5 at their edges, in one statement: bytes, the index of one, what is there.
+-- The numbers that rules 1.3 and 1.4 name, and the faults of rule 1.5 at their edges, in one statement: bytes, the index of one, what is there; then its
+-- offset (rule 1.7) and its bytes (rule 1.8).
 use mathlib.Core.Path.{_≡_, refl}
 use mathlib.Core.List.{[], _∷_}
-use Rattle.number.specs.Groups.{gather, value, padded}
-use Rattle.number.specs.Reading.{reading, readAt, formed, ends, notShortest, tooLarge}
+use Rattle.number.specs.Groups.{gather, value, padded, ownBytes}
+use Rattle.number.specs.Reading.{reading, readAt, offsetAt, bytesAt, formed, ends, notShortest, tooLarge}
 use Rattle.number.specs.Reading.Found.{number, fault}
 use Rattle.number.specs.Writing.{writing, written}
 
@@ -35,6 +36,16 @@ pub examples :
     × (readAt (0x80 ∷ 0x80 ∷ 0x80 ∷ 0x80 ∷ 0x80 ∷ 0x00 ∷ []) 0 ≡ fault tooLarge)
     × (readAt (0x81 ∷ 0xD0 ∷ 0xAC ∷ 0xF3 ∷ 0x0E ∷ []) 0 ≡ fault tooLarge)
     × (readAt (0xFF ∷ 0xFF ∷ 0xFF ∷ 0xFF ∷ 0x7F ∷ []) 0 ≡ fault tooLarge)
-unfolding gather value padded reading readAt formed writing written
+    -- the offset is the byte that was asked for, also at the end; past it, the end
+    × (offsetAt (0x01 ∷ 0x80 ∷ 0x00 ∷ []) 1 ≡ 1)
+    × (offsetAt (0x01 ∷ 0x80 ∷ 0x00 ∷ []) 3 ≡ 3)
+    × (offsetAt (0x01 ∷ 0x80 ∷ 0x00 ∷ []) 4 ≡ 3)
+    -- the bytes of a number; of one that is not in its shortest form; of one that is cut; five of one that goes on; none
+    × (bytesAt (0xAC ∷ 0x02 ∷ 0x80 ∷ []) 0 ≡ 0xAC ∷ 0x02 ∷ [])
+    × (bytesAt (0x01 ∷ 0x80 ∷ 0x00 ∷ 0x05 ∷ []) 1 ≡ 0x80 ∷ 0x00 ∷ [])
+    × (bytesAt (0x01 ∷ 0x80 ∷ []) 1 ≡ 0x80 ∷ [])
+    × (bytesAt (0x80 ∷ 0x80 ∷ 0x80 ∷ 0x80 ∷ 0x80 ∷ 0x00 ∷ []) 0 ≡ 0x80 ∷ 0x80 ∷ 0x80 ∷ 0x80 ∷ 0x80 ∷ [])
+    × (bytesAt (0x01 ∷ []) 1 ≡ [])
+unfolding gather value padded ownBytes reading readAt formed writing written
 examples =
-    (refl, refl, refl, refl, refl, refl, refl, refl, refl, refl, refl, refl, refl, refl, refl, refl, refl, refl, refl, refl, refl, refl)
+    (refl, refl, refl, refl, refl, refl, refl, refl, refl, refl, refl, refl, refl, refl, refl, refl, refl, refl, refl, refl, refl, refl, refl, refl, refl, refl, refl, refl, refl, refl)

@@ -65,6 +65,6 @@ ReadSegmentPromise file start own counts r = segmentFound r ≡ readsFrom (perio
 abbrev pub ReadLinePromise : (file : List ℕ) → Spot → Counts → ReadLine → Type 0
 ReadLinePromise file start counts r = lineFound r ≡ readsFrom (periods.line counts) file start
 
--- `verdict`: what reading says of the file (rules 8.1 to 8.4).
+-- `verdict`: what reading says of the file (rules 8.1 to 8.4 and 8.9).
 abbrev pub VerdictPromise : (file : List ℕ) → Answer → Type 0
 VerdictPromise file r = said r ≡ periodVerdict file

@@ -8,7 +8,7 @@ use Rattle.fields.specs.declared.answer.Answer.the-variants.{Accepted, Refused}
 use Rattle.fields.specs.declared.answer.Refusal.{Refusal}
 use Rattle.fields.specs.declared.spot.Spot.{Spot}
 use Rattle.fields.specs.Answers.{Notice, refusing, said}
-use Rattle.fields.specs.Readers.{Reader, return, _>>=_, Read, read, refused}
+use Rattle.fields.specs.Readers.{Reader, return, _>>=_, Read, refused}
 use Rattle.fields.specs.Files.{ended, readVerdict}
 use Rattle.fields.specs.Spots.{firstSpot, endAt}
 use Rattle.fields.specs.Reaching.{Reach, whole, stopped, readsFrom, readTo, refusedBy, asRead}

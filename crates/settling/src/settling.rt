@@ -134,14 +134,13 @@ fn settle_period(
     start(&mut amounts, &mut sets, plants, plant_count);
     let mut s = 0;
     while s < segment_count {
-        let segment = Segment {
-            kind: segments.kind[s],
-            outflow: segments.outflow[s],
-            next: segments.next[s],
-        };
         let due = Due {
             index: s,
-            segment,
+            segment: Segment {
+                kind: segments.kind[s],
+                outflow: segments.outflow[s],
+                next: segments.next[s],
+            },
             emission: emissions.segments[s],
             bytes: emissions.bytes,
         };

@@ -77,6 +77,28 @@ pub fn outside(allowed: &RangeInclusive<u64>, seeded: &mut Seeded) -> u64 {
     seeded.pick(&choices)
 }
 
+/// Files of these numbers with one fault at each place, and the refusal that is due: the file ends
+/// before the number or inside it, the number is not in shortest form, or it is too large.
+#[cfg(test)]
+pub fn one_fault_at_each_place(numbers: &[u64]) -> Vec<(Vec<u8>, String)> {
+    let mut files = Vec::new();
+    for (place, &value) in numbers.iter().enumerate() {
+        let before = write_numbers(&numbers[..place]);
+        let due = |number| format!("R {number} {place} {}", before.len());
+        files.push((before.clone(), due(1)));
+        files.push(([&before[..], &[MORE_FOLLOW]].concat(), due(1)));
+        let own = write_number(value);
+        if own.len() < MOST_GROUPS {
+            let longer = padded(&own, own.len() + 1);
+            files.push((write_with_form(numbers, place, &longer), due(2)));
+        }
+        for form in [vec![MORE_FOLLOW; MOST_GROUPS], write_number(LIMIT + 1)] {
+            files.push((write_with_form(numbers, place, &form), due(3)));
+        }
+    }
+    files
+}
+
 #[cfg(test)]
 mod tests {
     use super::*;

@@ -25,8 +25,9 @@ pub fn read_numbers(file: &[u8]) -> Result<NumbersInOrder<'_>, Refused> {
 #[cfg(test)]
 mod tests {
     use super::*;
-    use crate::numbers::number::{padded, write_number, LIMIT, MOST_GROUPS};
-    use crate::numbers::writing::{with_values, write_numbers, write_with_form};
+    use crate::numbers::faults::one_fault_at_each_place;
+    use crate::numbers::number::LIMIT;
+    use crate::numbers::writing::{with_values, write_numbers};
     use crate::periods::paper::{whole_period, WHOLE_PERIOD};
 
     fn refused(file: &[u8]) -> String {
@@ -51,28 +52,9 @@ mod tests {
     }
 
     #[test]
-    fn file_that_ends_is_refused_at_the_number_that_is_missing() {
-        for place in 0..WHOLE_PERIOD.len() {
-            let before = write_numbers(&WHOLE_PERIOD[..place]);
-            let expected = format!("R 1 {place} {}", before.len());
-            assert_eq!(refused(&before), expected);
-            let cut_inside = [&before[..], &[0x80]].concat();
-            assert_eq!(refused(&cut_inside), expected);
-        }
-    }
-
-    #[test]
-    fn number_at_fault_is_refused_at_its_place() {
-        for (place, &value) in WHOLE_PERIOD.iter().enumerate() {
-            let byte = write_numbers(&WHOLE_PERIOD[..place]).len();
-            let own = write_number(value);
-            let longer = padded(&own, own.len() + 1);
-            let file = write_with_form(&WHOLE_PERIOD, place, &longer);
-            assert_eq!(refused(&file), format!("R 2 {place} {byte}"));
-            let too_large = format!("R 3 {place} {byte}");
-            let file = write_with_form(&WHOLE_PERIOD, place, &[0x80; MOST_GROUPS]);
-            assert_eq!(refused(&file), too_large);
-            assert_eq!(refused_with(place, LIMIT + 1), too_large);
+    fn number_at_fault_is_refused_at_its_place_and_byte() {
+        for (file, expected) in one_fault_at_each_place(&WHOLE_PERIOD) {
+            assert_eq!(refused(&file), expected);
         }
     }
 

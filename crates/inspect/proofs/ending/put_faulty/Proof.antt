@@ -33,9 +33,15 @@ same-length c = search needs
 
 returns : tie.Need-returns
 returns c =
-    let numbers = put-then (c .before .before .before .before .before .before .before .before .before .before .before .before .before .before .before .before .before .before .before .before .before .before .before .before .put-number .ensures) (c .before .before .before .before .before .before .before .before .before .before .before .before .before .before .before .before .before .before .before .before .put-spaced .ensures) in
-    let words = put-then (put-then numbers (c .before .before .before .before .before .before .before .before .before .before .before .before .before .before .before .put-words .ensures)) (c .before .before .before .before .before .before .before .before .before .before .before .put-field .ensures) in
-    put-then (put-then words (c .before .before .before .before .before .before .put-words2 .ensures)) (c .before .before .put-bytes-at .ensures)
+    let bytes = c .before .before in
+    let colon = bytes .before .before .before .before in
+    let field = colon .before .before .before .before .before in
+    let dash = field .before .before .before .before in
+    let byte = dash .before .before .before .before .before in
+    let place = byte .before .before .before .before in
+    let numbers = put-then (place .put-number .ensures) (byte .put-spaced .ensures) in
+    let words = put-then (put-then numbers (dash .put-words .ensures)) (field .put-field .ensures) in
+    put-then (put-then words (colon .put-words2 .ensures)) (bytes .put-bytes-at .ensures)
 
 pub put-faulty-spec : {M : Type 1} → statement M
 put-faulty-spec =

@@ -24,9 +24,14 @@ same-length c = search needs
 
 returns : tie.Need-returns
 returns c =
-    let numbers = put-then (c .before .before .before .before .before .before .before .before .before .before .before .before .before .before .before .before .before .before .put-number .ensures) (c .before .before .before .before .before .before .before .before .before .before .before .before .before .before .put-spaced .ensures) in
-    let words = put-then (put-then numbers (c .before .before .before .before .before .before .before .before .before .before .put-spaced2 .ensures)) (c .before .before .before .before .before .before .put-field .ensures) in
-    put-then words (c .before .before .put-close .ensures)
+    let close = c .before .before in
+    let field = close .before .before .before .before in
+    let value = field .before .before .before .before in
+    let byte = value .before .before .before .before in
+    let place = byte .before .before .before .before in
+    let numbers = put-then (place .put-number .ensures) (byte .put-spaced .ensures) in
+    let words = put-then (put-then numbers (value .put-spaced2 .ensures)) (field .put-field .ensures) in
+    put-then words (close .put-close .ensures)
 
 pub put-number-line-spec : {M : Type 1} → statement M
 put-number-line-spec =

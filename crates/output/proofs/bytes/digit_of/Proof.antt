@@ -1,5 +1,4 @@
 -- `output::bytes::digit_of` meets its contract: a digit below ten, or a letter. Assumes nothing.
-use native.Mathlib.Omega.{arith}
 use mathlib.Core.Path.{refl}
 use borrow.Author.Needs.{needs}
 use borrow.Author.Tests.{lt-ltb, le-ltb}

@@ -46,26 +46,26 @@ start-requires c κs =
 loop-holds : tie.Need-loop-holds Inv-loop μ-loop
 loop-holds c = turned-start (c .before .before .before .pre) _ _ (c .start .ensures)
 
-mul-t27 : tie.Need-mul-t27 Inv-loop μ-loop
-mul-t27 c = omega arith
+mul-t26 : tie.Need-mul-t26 Inv-loop μ-loop
+mul-t26 c = omega arith
 
-mul-t31 : tie.Need-mul-t31 Inv-loop μ-loop
-mul-t31 c = omega arith
+mul-t30 : tie.Need-mul-t30 Inv-loop μ-loop
+mul-t30 c = omega arith
 
-mul-t27-2 : tie.Need-mul-t27-2 Inv-loop μ-loop
-mul-t27-2 c = omega arith
+mul-t35 : tie.Need-mul-t35 Inv-loop μ-loop
+mul-t35 c = omega arith
 
-element-copy-out-t26 : tie.Need-element-copy-out-t26 Inv-loop μ-loop
-element-copy-out-t26 c = omega (arith, start-of (c .before) .pre .counts-within .most-segments)
+element-copy-out-t25 : tie.Need-element-copy-out-t25 Inv-loop μ-loop
+element-copy-out-t25 c = omega (arith, start-of (c .before) .pre .counts-within .most-segments)
 
-element-copy-out-t30 : tie.Need-element-copy-out-t30 Inv-loop μ-loop
-element-copy-out-t30 c = omega (arith, start-of (c .before .before) .pre .counts-within .most-segments)
+element-copy-out-t29 : tie.Need-element-copy-out-t29 Inv-loop μ-loop
+element-copy-out-t29 c = omega (arith, start-of (c .before .before) .pre .counts-within .most-segments)
 
-element-copy-out-t34 : tie.Need-element-copy-out-t34 Inv-loop μ-loop
-element-copy-out-t34 c = omega (arith, start-of (c .before .before .before) .pre .counts-within .most-segments)
+element-copy-out-t33 : tie.Need-element-copy-out-t33 Inv-loop μ-loop
+element-copy-out-t33 c = omega (arith, start-of (c .before .before .before) .pre .counts-within .most-segments)
 
-element-copy-out-t37 : tie.Need-element-copy-out-t37 Inv-loop μ-loop
-element-copy-out-t37 c = omega (arith, start-of (c .before .before .before .before) .pre .counts-within .most-segments)
+element-copy-out-t38 : tie.Need-element-copy-out-t38 Inv-loop μ-loop
+element-copy-out-t38 c = omega (arith, start-of (c .before .before .before .before) .pre .counts-within .most-segments)
 
 work-requires : tie.Need-work-requires Inv-loop μ-loop
 work-requires c κs =
@@ -127,11 +127,11 @@ segment-accounts-requires c κs =
     let l = c .before .before .before .before in
     segments-counted (start-of (l .before) .pre) (l .before .loop .inv) (l .loop-test .left)
 
-cast-t47 : tie.Need-cast-t47 Inv-loop μ-loop
-cast-t47 c = omega (arith, start-of (c .before .before .before .before) .pre .counts-within .most-plants)
-
 cast-t48 : tie.Need-cast-t48 Inv-loop μ-loop
-cast-t48 c = omega (arith, start-of (c .before .before .before .before) .pre .counts-within .most-segments)
+cast-t48 c = omega (arith, start-of (c .before .before .before .before) .pre .counts-within .most-plants)
+
+cast-t49 : tie.Need-cast-t49 Inv-loop μ-loop
+cast-t49 c = omega (arith, start-of (c .before .before .before .before) .pre .counts-within .most-segments)
 
 returns-2 : tie.Need-returns-2 Inv-loop μ-loop
 returns-2 c =
@@ -147,13 +147,13 @@ settle-period-spec =
     μ-loop
     start-requires
     loop-holds
-    element-copy-out-t26
-    mul-t27
-    element-copy-out-t30
-    mul-t31
-    element-copy-out-t34
-    mul-t27-2
-    element-copy-out-t37
+    element-copy-out-t25
+    mul-t26
+    element-copy-out-t29
+    mul-t30
+    element-copy-out-t33
+    mul-t35
+    element-copy-out-t38
     work-requires
     enum-known-answer
     refused-requires
@@ -163,8 +163,8 @@ settle-period-spec =
     loop-less
     loop-again
     associated-with-requires
-    cast-t47
     cast-t48
+    cast-t49
     plant-accounts-requires
     segment-accounts-requires
     returns-2)
