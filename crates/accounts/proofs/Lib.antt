@@ -40,5 +40,6 @@ pub mod Order
 pub mod Offsets
 -- No refusal has the number 0.
 pub mod Numbered
--- The worked period and its changes.
+-- How an answer is computed; the worked period and its changes.
+pub mod Computed
 pub mod Examples

@@ -18,6 +18,7 @@ pub mod Along
 pub mod Consumed
 pub mod Offsets
 pub mod Fronts
+pub mod OverTheRest
 -- Tests in their order, and those that a reader asks of a file.
 pub mod Testing
 pub mod Asking

@@ -1,4 +1,4 @@
-// The entry for a period file, which the historian calls from C, on bytes (rules 10.5 to 10.7).
+// The entry for a period file, which the historian calls from C, on bytes (rules 10.5 to 10.8).
 ghost use Rattle.historian.specs.Tables.{EntryPromise};
 use fields::Answer;
 use period::answer_with_tables;

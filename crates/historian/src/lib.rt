@@ -1,4 +1,4 @@
-// The entries for the plant historian, which is written in C (rules 10.5 to 10.7 and 12.9).
+// The entries for the plant historian, which is written in C (rules 10.5 to 10.8 and 12.9).
 // The layers below answer a period file and a meter's sheet; here the answers go into the bytes and numbers that the historian lends.
 pub mod call;
 pub mod sheet;

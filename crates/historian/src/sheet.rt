@@ -1,4 +1,4 @@
-// The entry for a meter's sheet, which the historian calls from C (rule 12.9).
+// The entry for a meter's sheet, which the historian calls from C (rules 10.8 and 12.9).
 ghost use Rattle.historian.specs.Sheets.{five, leaves, DaysEntryPromise};
 use fields::Answer;
 use meter::days;

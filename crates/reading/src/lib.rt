@@ -1,4 +1,4 @@
-// Reading a period file: from its bytes to its records, or to the first reason to refuse it (rules 2.2 to 2.9 and 8.1 to 8.4).
+// Reading a period file: from its bytes to its records, or to the first reason to refuse it (rules 2.2 to 2.9, 8.1 to 8.4 and 8.9).
 //
 // The numbers are taken in their order: the header, the plants, the segments, the lines, and then the end of the file.
 // Each number is tested before the next one is taken. A caller reads one record after another and keeps what it needs of each.

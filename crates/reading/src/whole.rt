@@ -1,4 +1,4 @@
-// What reading says of a file, if none of its records is needed (rules 8.1 to 8.4).
+// What reading says of a file, if none of its records is needed (rules 8.1 to 8.4 and 8.9).
 ghost use Rattle.fields.specs.Reaching.{readsFrom};
 ghost use Rattle.records.specs.Periods.{linesOf, plantsOf, segmentsOf};
 ghost use Rattle.reading.specs.Found.{VerdictPromise};
@@ -23,7 +23,7 @@ pub enum ReadRecords {
     Refused(Refusal),
 }
 
-// Whether a file, whatever its bytes are, is read to its end, or why it is refused: 1 to 9 (rules 8.1 to 8.4).
+// Whether a file, whatever its bytes are, is read to its end, or why it is refused: 1 to 9 (rules 8.1 to 8.4 and 8.9).
 pub fn verdict(file: &[u8]) -> Answer
     ensures { λ r. ⌜ VerdictPromise (now (file .entry)) r ⌝ }
 {
