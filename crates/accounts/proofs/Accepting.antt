@@ -40,7 +40,7 @@ grams-split :
 grams-split choose lines done = ap (gramsOf choose) (sym (take-append-drop done lines)) ∙ grams-of-both choose (take done lines) (drop done lines)
 
 -- no owner's total passes the limit: its own lines are tested with the total up to them, and the lines of others add nothing to it
-grams-each :
+pub grams-each :
     (starts : ℕ → ℕ) (ownerKind owner : ℕ) (lines : List Line) (done : ℕ) (left : List Line) → drop done lines ≡ left →
     NoneFails (lineTests starts lines done left) → gramsOf (ownedBy ownerKind owner) (take done lines) ≤ mostGrams →
     gramsOf (ownedBy ownerKind owner) lines ≤ mostGrams

@@ -15,11 +15,12 @@ use Rattle.accounts.specs.Accounts.{Account}
 use Rattle.accounts.specs.Rows.{plantRow, associated, plantRows, segmentRow, segmentRows}
 use Rattle.accounts.specs.Quantified.{accountsOf, stores}
 use Rattle.accounts.proofs.RowsAt.{stores-length}
+use Rattle.gathering.specs.Gathered.{columnOf}
+use Rattle.gathering.proofs.Listing.{filled-at}
 use Rattle.settling.specs.declared.account.PlantAccounts.{PlantAccounts}
 use Rattle.settling.specs.declared.account.SegmentAccounts.{SegmentAccounts}
-use Rattle.settling.specs.Settled.{PlantAccount, SegmentAccount, PlantColumns, SegmentColumns, columnOf, segmentAccount, plantAccountAt, plantAccounts}
+use Rattle.settling.specs.Settled.{PlantAccount, SegmentAccount, PlantColumns, SegmentColumns, segmentAccount, plantAccountAt, plantAccounts}
 use Rattle.period.specs.Written.{plantRowAt, segmentRowAt, firstRows}
-use Rattle.settling.proofs.Listing.{filled-at}
 use Rattle.period.proofs.RowsWritten.{rows-of}
 
 -- ---- the rows of the definitions, by the accounts

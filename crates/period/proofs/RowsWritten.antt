@@ -9,7 +9,7 @@ use lib.ListN.{length, take, drop, getD, length-append}
 use lib.Seq.{take-suc, take-at, drop-at, drop-drop, length-front, length-take-le}
 use Rattle.fields.specs.Tests.{listed}
 use Rattle.fields.proofs.Testing.{listed-length}
-use Rattle.settling.proofs.Listing.{listed-on}
+use Rattle.gathering.proofs.Listing.{listed-on}
 use Rattle.period.specs.Written.{firstRows}
 
 -- ---- rows of n numbers, one behind another

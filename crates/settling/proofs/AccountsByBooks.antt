@@ -24,11 +24,11 @@ use Rattle.accounts.specs.Shares.{noTurn}
 use Rattle.accounts.proofs.Passing.{getD-map}
 use Rattle.accounts.proofs.Accepting.{accounts-length, account-at}
 use Rattle.accounts.proofs.TurnsOfPeriod.{after-all, turn-is, past-store}
-use Rattle.settling.specs.declared.emissions.Emissions.{Emissions}
+use Rattle.gathering.specs.declared.emissions.Emissions.{Emissions}
 use Rattle.settling.specs.Settled.{PlantAccount, SegmentAccount, plantAccountAt, segmentAccount, plantAccounts, segmentAccounts}
 use Rattle.settling.specs.Books.{Books, cell}
 use Rattle.settling.specs.Inside.{Small, EmissionsOf, Chargeable, chargesBy, associatedBy}
-use Rattle.settling.proofs.Listing.{listed-same, listed-all, listed-map, map-map}
+use Rattle.gathering.proofs.Listing.{listed-same, listed-all, listed-map, map-map}
 use Rattle.settling.proofs.BooksAtTurn.{Bounded, after, at, AtTurn, after-length, no-more}
 
 -- ---- all segments are worked

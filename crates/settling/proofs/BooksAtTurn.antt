@@ -26,7 +26,7 @@ use Rattle.accounts.proofs.Sets.{set-has}
 use Rattle.accounts.proofs.Passing.{getD-map}
 use Rattle.accounts.proofs.TurnsOfPeriod.{after as turned-after, after-length as turned-length, after-on as turned-on, turn-is}
 use Rattle.accounts.proofs.Fits.{kept-so-far}
-use Rattle.settling.specs.declared.emissions.Emissions.{Emissions}
+use Rattle.gathering.specs.declared.emissions.Emissions.{Emissions}
 use Rattle.settling.specs.declared.flow.Due.{Due}
 use Rattle.settling.specs.Settled.{Settlement, settledBy}
 use Rattle.settling.specs.Books.{Passes, Books, BooksSized, cell, column, AmountsHold, SetsHold, StoredHold, Started, accountBy}

@@ -1,11 +1,7 @@
--- What is listed index by index; records kept column by column.
-pub mod Listing
-mod Keeping
+-- Records by their columns.
+mod ByColumns
 -- The tests of a segment, in their order.
 mod Tests
--- The owners' totals.
-mod Totals
-mod LinesAdded
 -- The credits, one after another, and a charge; the table of amounts, its columns and cells.
 mod Crediting
 mod Charging

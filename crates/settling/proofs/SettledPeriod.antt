@@ -34,16 +34,16 @@ use Rattle.accounts.proofs.Accepting.{accounts-length}
 use Rattle.accounts.proofs.Sets.{set-below}
 use Rattle.settling.specs.declared.account.PlantAccounts.{PlantAccounts}
 use Rattle.settling.specs.declared.account.SegmentAccounts.{SegmentAccounts}
-use Rattle.settling.specs.declared.emissions.Emissions.{Emissions}
+use Rattle.gathering.specs.declared.emissions.Emissions.{Emissions}
 use Rattle.settling.specs.declared.flow.Due.{Due}
-use Rattle.settling.specs.declared.network.Plants.{Plants}
-use Rattle.settling.specs.declared.network.Segments.{Segments}
+use Rattle.gathering.specs.declared.network.Plants.{Plants}
+use Rattle.gathering.specs.declared.network.Segments.{Segments}
 use Rattle.settling.specs.Settled.{PlantAccount, plantAccountAt, segmentAccount, settledOf, settledBy}
 use Rattle.settling.specs.Books.{Books, booksOf, column, Started, Worked}
 use Rattle.settling.specs.Kept.{plantBy, plantsBy, segmentBy, segmentsBy}
 use Rattle.settling.specs.Inside.{EmissionsOf, AllChargeable, Associated, PlantsCounted, PlantColumnsBy, SegmentsCounted, SegmentColumnsBy, Given, dueBy, workedOff, SettledBy, nothingKept}
 use Rattle.settling.proofs.NothingKept.{kept-refused}
-use Rattle.settling.proofs.Listing.{listed-at, listed-front, filled-by}
+use Rattle.gathering.proofs.Listing.{listed-at, listed-front, filled-by}
 use Rattle.settling.proofs.AccountsByBooks.{inflows-are, sets-are, emissions-are, outflows-are, stored-are, associated-are, fields-are, stored-most, chargeable}
 use Rattle.settling.proofs.Cells.{zeros, no-amount}
 use Rattle.settling.proofs.Columns.{column-at, column-length}
@@ -221,7 +221,7 @@ module _ {plantColumns : Plants} {segmentColumns : Segments} {counts : Counts} {
                   s .inflow-is
                   ∙ ap segment-column (listed-front (books .inflows) 0 S (omega (arith, turned .sized .inflows, given .counts-within .most-segments)))
                   ∙ ap segment-column (inflows-are bounded worked lines emitted);
-              outflow = s .outflow ∙ given .segments-filled ∙ ap segment-column (outflows-are bounded worked lines emitted);
+              outflow = s .outflow ∙ given .segments-filled .outflow ∙ ap segment-column (outflows-are bounded worked lines emitted);
               emission =
                   s .emission-is
                   ∙ filled-by 0 mostSegments (λ (i : ℕ). getD (emissions .segments) i 0) S (emissions .segments) (given .small .sized) (given .counts-within .most-segments)

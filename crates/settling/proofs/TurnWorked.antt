@@ -27,7 +27,7 @@ use Rattle.accounts.specs.Order.{segmentTests}
 use Rattle.accounts.proofs.Accepting.{Sound}
 use Rattle.accounts.proofs.Sets.{set-same, set-joined}
 use Rattle.accounts.proofs.Passing.{passed-at}
-use Rattle.settling.specs.declared.emissions.Emissions.{Emissions}
+use Rattle.gathering.specs.declared.emissions.Emissions.{Emissions}
 use Rattle.settling.specs.declared.flow.Due.{Due}
 use Rattle.settling.specs.Books.{Passes, Books, cell, column, SetsHold, Moved, Worked, accountBy}
 use Rattle.settling.proofs.BooksAtTurn.{Bounded, dueAt, after, at, left, Past, AtTurn, segment-within, after-length, placed, after-on, inside as inside-of, entering-is as entering-of, has as has-of, reached as reached-by}

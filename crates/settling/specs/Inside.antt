@@ -1,80 +1,39 @@
 -- What the private functions promise to their callers. Nothing here is needed to read the promise of `settle`.
-use Prim.Native.Nat.{ℕ, zero, suc, _+_, _-_, _*_, _^_, _≤_, _<_, min}
+use Prim.Native.Nat.{ℕ, zero, suc, _+_, _*_, _^_, _≤_, _<_}
 use mathlib.Core.Path.{_≡_}
-use mathlib.Core.Bool.{cond, _&&_}
 use mathlib.Core.List.{List, []}
-use lib.Dec.{ltb, eqb}
 use lib.ListN.{length, take, getD, replicate}
 use Rattle.number.specs.Groups.{largest}
-use Rattle.fields.specs.declared.answer.Answer.the-variants.{Accepted, Refused}
+use Rattle.fields.specs.declared.answer.Answer.the-variants.{Refused}
 use Rattle.fields.specs.declared.answer.Refusal.{Refusal}
-use Rattle.fields.specs.declared.spot.Spot.{Spot}
-use Rattle.fields.specs.Answers.{Verdict, accepts, refuses, said}
 use Rattle.fields.specs.Lists.{Each, filled}
-use Rattle.fields.specs.Spots.{endAt}
-use Rattle.fields.specs.Reaching.{Reach, whole, stopped, readsFrom}
-use Rattle.fields.specs.Tests.{testedBy, listed}
+use Rattle.fields.specs.Tests.{listed}
 use Rattle.records.specs.declared.counts.Counts.{Counts}
 use Rattle.records.specs.declared.line.Line.{Line}
 use Rattle.records.specs.Plants.{mostPlants}
 use Rattle.records.specs.Segments.{mostSegments}
 use Rattle.records.specs.Classes.{plantOwner, segmentOwner}
-use Rattle.records.specs.Lines.{mostGrams}
-use Rattle.records.specs.Places.{lineStart}
-use Rattle.records.specs.Periods.{Period, periodOf, linesOf}
+use Rattle.records.specs.Periods.{Period, periodOf}
 use Rattle.records.specs.Within.{CountsWithin, PlantWithin, SegmentWithin}
 use Rattle.accounts.specs.Sums.{roundedUp}
-use Rattle.accounts.specs.Emissions.{grams, inKg, emission}
-use Rattle.accounts.specs.Order.{lineTests, segmentTests}
+use Rattle.accounts.specs.Emissions.{emission}
+use Rattle.accounts.specs.Order.{segmentTests}
 use Rattle.accounts.specs.Quantified.{accountsOf}
+use Rattle.gathering.specs.declared.emissions.Emissions.{Emissions}
+use Rattle.gathering.specs.declared.network.Plants.{Plants}
+use Rattle.gathering.specs.declared.network.Segments.{Segments}
+use Rattle.gathering.specs.Gathered.{PlantRecords, SegmentRecords}
 use Rattle.settling.specs.declared.account.PlantAccounts.{PlantAccounts}
 use Rattle.settling.specs.declared.account.SegmentAccounts.{SegmentAccounts}
-use Rattle.settling.specs.declared.emissions.Emissions.{Emissions}
-use Rattle.settling.specs.declared.emissions.Totals.{Totals}
 use Rattle.settling.specs.declared.flow.Due.{Due}
-use Rattle.settling.specs.declared.network.Plants.{Plants}
-use Rattle.settling.specs.declared.network.Segments.{Segments}
 use Rattle.settling.specs.declared.settling.Settled.{Settled}
 use Rattle.settling.specs.Settled.{Settlement, settledOf, settledBy, Settles}
-use Rattle.settling.specs.Kept.{plantsBy, segmentBy, segmentsBy, PlantsFilled, SegmentsFilled}
+use Rattle.settling.specs.Kept.{plantsBy, segmentBy, segmentsBy}
 use Rattle.settling.specs.Books.{Sized}
 
 -- No number is over the largest (rule 1.4).
 abbrev pub Small : List ℕ → Type 0
 Small numbers = (i : ℕ) → getD numbers i 0 ≤ largest
-
--- ---- the owners' totals in one array: places for the most plants, and behind them for the segments
-abbrev pub ownerPlace : (ownerKind owner : ℕ) → ℕ
-ownerPlace ownerKind owner = mostPlants * ownerKind + owner - 1
-
--- The totals of no line, and below the grams of the owner at a place.
-abbrev pub noTotals : Totals
-noTotals = record { grams = 0 }
-
-abbrev pub gramsAt : List Totals → ℕ → ℕ
-gramsAt totals o = getD totals o noTotals .grams
-
--- Grams are counted up to one more than the limit (rule 9.3).
-abbrev pub overGrams : ℕ
-overGrams = mostGrams + 1
-
-abbrev pub withLine : Totals → Line → Totals
-withLine totals line = record { grams = min (totals .grams + grams line) overGrams }
-
--- The first line that passes the limit, by its number and its first byte; its number is 0 if there is none yet (rules 8.5 and 8.9).
-abbrev pub firstOver : Spot → Totals → Spot → Spot
-firstOver over total line = cond (eqb (over .place) 0 && ltb mostGrams (total .grams)) line over
-
--- No total passes the limit (rule 8.5).
-abbrev pub FewGrams : List Totals → Type 0
-FewGrams totals = (o : ℕ) → gramsAt totals o ≤ mostGrams
-
--- `count` totals in kg, from the one at the place `first` on, and zeros behind them (rule 4.3).
-pub record Rounded (totals : List Totals) (first count : ℕ) (kg : List ℕ) : Type 0 where
-  pub sized : length kg ≡ mostSegments
-  pub each : (o : ℕ) → o < count → getD kg o 0 ≡ inKg (gramsAt totals (first + o))
-  pub behind : (o : ℕ) → count ≤ o → getD kg o 0 ≡ 0
-  pub small : Small kg
 
 -- ---- emissions
 -- No owner emits more than the largest number (rule 9.3).
@@ -88,27 +47,6 @@ pub record EmissionsOf (counts : Counts) (lines : List Line) (emissions : Emissi
   pub plants : (p : ℕ) → p < counts .plants → getD (emissions .plants) p 0 ≡ emission plantOwner (suc p) lines
   pub segments : (s : ℕ) → s < counts .segments → getD (emissions .segments) s 0 ≡ emission segmentOwner (suc s) lines
   pub behind : (s : ℕ) → counts .segments ≤ s → getD (emissions .segments) s 0 ≡ 0
-
--- The answer for lines that are refused.
-abbrev pub noEmissions : Refusal → Emissions
-noEmissions why = record { answer = Refused why; bytes = 0; plants = replicate mostSegments 0; segments = replicate mostSegments 0 }
-
--- One verdict, and then another: the first refusal decides.
-abbrev pub andThen : Verdict → Verdict → Verdict
-andThen (refuses notice) later = refuses notice
-andThen accepts later = later
-
--- What is said of the lines that are read: first the end of the file, then 10 over the lines (rules 8.4 and 8.5).
-abbrev pub linesRuling : List ℕ → Counts → Reach (List Line) → Verdict
-linesRuling file counts (whole lines last) = andThen (endAt file last) (testedBy refuses (lineTests (lineStart file counts) lines 0 lines) accepts)
-linesRuling file counts (stopped notice) = refuses notice
-
--- What adding them up gives: the verdict and, if it is acceptance, the emissions and how many bytes were read (rules 4.3, 8.4, 8.5 and 8.9).
-pub record AddedUp (file : List ℕ) (start : Spot) (counts : Counts) (r : Emissions) : Type 0 where
-  pub verdict : said (r .answer) ≡ linesRuling file counts (readsFrom (linesOf counts) file start)
-  pub emitted : r .answer ≡ Accepted → (lines : List Line) (last : Spot) → readsFrom (linesOf counts) file start ≡ whole lines last → EmissionsOf counts lines r
-  pub all-bytes : r .answer ≡ Accepted → r .bytes ≡ length file
-  pub small : SmallEmissions r
 
 -- ---- what is charged, by the books
 -- What a plant can be charged for without passing the numbers of the machine (rule 9.3).
@@ -176,8 +114,8 @@ pub record Given (plants : Plants) (segments : Segments) (counts : Counts) (emis
   pub counts-within : CountsWithin counts
   pub each-plant : Each (PlantWithin counts) 1 (plantsBy plants (counts .plants))
   pub each-segment : Each (SegmentWithin counts) 1 (segmentsBy segments (counts .segments))
-  pub plants-filled : PlantsFilled plants (counts .plants)
-  pub segments-filled : SegmentsFilled segments (counts .segments)
+  pub plants-filled : PlantRecords plants (plantsBy plants (counts .plants))
+  pub segments-filled : SegmentRecords segments (segmentsBy segments (counts .segments))
   pub small : SmallEmissions emissions
 
 -- The segment at an index, when its turn comes (rule 5.1).

@@ -4,19 +4,17 @@ use mathlib.Core.Path.{_≡_}
 use mathlib.Core.List.{List, [], _++_, map}
 use lib.ListN.{length, getD}
 use Rattle.fields.specs.Answers.{Notice, Verdict, accepts, refuses, said}
-use Rattle.fields.specs.Lists.{filled}
 use Rattle.fields.specs.Readers.{Read, read, refused}
 use Rattle.fields.specs.Tests.{Test, testedBy, listed}
 use Rattle.records.specs.Plants.{mostPlants, noPlant}
 use Rattle.records.specs.Segments.{mostSegments}
 use Rattle.records.specs.Periods.{Period, periodFile}
-use Rattle.records.specs.Places.{lineStart}
-use Rattle.records.specs.Within.{countsOf}
 use Rattle.accounts.specs.Flow.{nowhere}
 use Rattle.accounts.specs.Accounts.{Account}
 use Rattle.accounts.specs.Rows.{associated}
-use Rattle.accounts.specs.Order.{lineTests, segmentTests}
+use Rattle.accounts.specs.Order.{segmentTests}
 use Rattle.accounts.specs.Quantified.{accountsOf, stores}
+use Rattle.gathering.specs.Gathered.{gatheringTests, columnOf}
 use Rattle.settling.specs.declared.account.PlantAccounts.{PlantAccounts}
 use Rattle.settling.specs.declared.account.SegmentAccounts.{SegmentAccounts}
 use Rattle.settling.specs.declared.settling.Settled.{Settled}
@@ -72,12 +70,10 @@ settledOf period = record { verdict = accepts; plants = plantAccounts period; se
 abbrev pub settledBy : List Test → Settlement → Settlement
 settledBy = testedBy nothingSettled
 
--- The settlement of a period that was read from a file, by the tests of its lines and then of its segments (rules 8.5, 8.6 and 8.9).
+-- The settlement of a period that was read from a file, by the tests of its gathering and then of its segments (rules 8.5, 8.6 and 8.9).
 unfoldable pub settledPeriod : (file : List ℕ) → Period → Settlement
 settledPeriod file period =
-    settledBy
-    (lineTests (lineStart file (countsOf period)) (period .lines) 0 (period .lines) ++ segmentTests (length file) (accountsOf period))
-    (settledOf period)
+    settledBy (gatheringTests file period ++ segmentTests (length file) (accountsOf period)) (settledOf period)
 
 -- A refusal of reading decides; a period that was read is settled (rule 8.8).
 abbrev pub settledAfter : (file : List ℕ) → Read Period → Settlement
@@ -89,10 +85,6 @@ unfoldable pub settlement : List ℕ → Settlement
 settlement file = settledAfter file (periodFile file)
 
 -- ---- the promise of the call
--- A column: one figure of each account, in an array with `room` entries, and zeros behind.
-abbrev pub columnOf : {A : Type 0} → ℕ → (A → ℕ) → List A → List ℕ
-columnOf room figure accounts = filled 0 room (map figure accounts)
-
 -- The columns of plants, and below of segments.
 pub record PlantColumns (r : PlantAccounts) (accounts : List PlantAccount) : Type 0 where
   pub exported : r .exported ≡ columnOf mostPlants (λ (a : PlantAccount). a .exported) accounts

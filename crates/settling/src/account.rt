@@ -4,9 +4,9 @@ ghost use Prim.Native.Nat.{_≤_};
 ghost use lib.ListN.{length, replicate, take};
 ghost use Rattle.fields.specs.Lists.{filled};
 ghost use Rattle.settling.specs.Inside.{PlantColumnsBy, PlantsCounted, SegmentColumnsBy, SegmentsCounted, SmallUpTo};
-use crate::emissions::Emissions;
-use crate::network::Plants;
-use crate::network::Segments;
+use gathering::Emissions;
+use gathering::Plants;
+use gathering::Segments;
 use records::Plant;
 use records::Segment;
 

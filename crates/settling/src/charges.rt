@@ -6,7 +6,7 @@ ghost use Rattle.number.specs.Groups.{largest};
 ghost use Rattle.records.specs.Segments.{mostSegments};
 ghost use Rattle.settling.specs.Inside.{AllChargeable, Associated, Chargeable, chargesBy};
 use crate::arithmetic::rounded_up;
-use crate::emissions::Emissions;
+use gathering::Emissions;
 use records::Counts;
 use records::Plant;
 use records::Segment;

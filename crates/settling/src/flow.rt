@@ -17,9 +17,9 @@ ghost use Rattle.settling.specs.Books.{BooksSized, booksOf, column, figu
 ghost use Rattle.settling.specs.Kept.{plantsBy};
 ghost use Rattle.settling.specs.Inside.{Small};
 use crate::arithmetic::rounded_down;
-use crate::network::Plants;
 use fields::Answer;
 use fields::Reason;
+use gathering::Plants;
 use number::Number;
 use records::Plant;
 use records::Segment;

@@ -1,31 +1,21 @@
-// A period settled: its file is read part by part, and its segments have their turns in rising number (rules 5.1 and 8.1 to 8.6).
+// A period settled: its file is gathered, and its segments have their turns in rising number (rules 5.1 and 8.1 to 8.6).
 ghost use mathlib.Core.Path.{_≡_};
-ghost use Rattle.fields.specs.Spots.{firstSpot};
-ghost use Rattle.fields.specs.Reaching.{readsFrom, whole};
-ghost use Rattle.records.specs.Headers.{header};
 ghost use Rattle.settling.specs.Settled.{SettlePromise};
-ghost use Rattle.settling.specs.Kept.{NetworkPast, PlantsPast};
 ghost use Rattle.settling.specs.Inside.{Given, nothingKept, SettledBy};
 use crate::account::PlantAccounts;
 use crate::account::SegmentAccounts;
 use crate::account::plant_accounts;
 use crate::account::segment_accounts;
 use crate::charges::associated_with;
-use crate::emissions::Emissions;
-use crate::emissions::add_up;
 use crate::flow::Due;
 use crate::flow::start;
 use crate::flow::work;
-use crate::network::Plants;
-use crate::network::Segments;
-use crate::network::read_plants;
-use crate::network::read_segments;
 use fields::Answer;
 use fields::Refusal;
-use fields::Spot;
-use reading::ReadHeader;
-use reading::ReadRecords;
-use reading::read_header;
+use gathering::Emissions;
+use gathering::Plants;
+use gathering::Segments;
+use gathering::gather;
 use records::Counts;
 use records::Plant;
 use records::Segment;
@@ -43,75 +33,15 @@ pub struct Settled {
 pub fn settle(file: &[u8]) -> Settled
     ensures { λ r. ⌜ SettlePromise (now (file .entry)) r ⌝ }
 {
-    match read_header(file) {
-        ReadHeader::Refused(refusal) => refused(refusal),
-        ReadHeader::Whole(counts, next) => settle_records(file, next, counts),
-    }
-}
-
-// Settles a file whose header announced these counts, and whose first plant starts at a spot.
-fn settle_records(file: &[u8], start: Spot, counts: Counts) -> Settled
-    requires { ⌜ readsFrom header (now file) firstSpot ≡ whole counts start ⌝ }
-    ensures { λ r. ⌜ SettlePromise (now (file .entry)) r ⌝ }
-{
-    let mut exported = [0u32; Plant::MOST];
-    let mut first = [0u32; Plant::MOST];
-    let mut fraction = [0u32; Plant::MOST];
-    let passed = read_plants(
-        file,
-        start,
-        counts,
-        &mut exported,
-        &mut first,
-        &mut fraction,
-    );
-    let plants = Plants {
-        exported,
-        first,
-        fraction,
-    };
-    match passed {
-        ReadRecords::Refused(refusal) => refused(refusal),
-        ReadRecords::Whole(next) => settle_from_segments(file, next, counts, plants),
-    }
-}
-
-// The same for a file whose plants are read, and whose first segment starts at a spot.
-fn settle_from_segments(file: &[u8], start: Spot, counts: Counts, plants: Plants) -> Settled
-    requires { ⌜ PlantsPast (now file) counts plants start ⌝ }
-    ensures { λ r. ⌜ SettlePromise (now (file .entry)) r ⌝ }
-{
-    let mut kind = [0u8; Segment::MOST];
-    let mut outflow = [0u32; Segment::MOST];
-    let mut next = [0u32; Segment::MOST];
-    let passed = read_segments(file, start, counts, &mut kind, &mut outflow, &mut next);
-    let segments = Segments {
-        kind,
-        outflow,
-        next,
-    };
-    match passed {
-        ReadRecords::Refused(refusal) => refused(refusal),
-        ReadRecords::Whole(at) => settle_from_lines(file, at, counts, plants, segments),
-    }
-}
-
-// The same for a file whose plants and segments are read, and whose first line starts at a spot.
-fn settle_from_lines(
-    file: &[u8],
-    start: Spot,
-    counts: Counts,
-    plants: Plants,
-    segments: Segments,
-) -> Settled
-    requires { ⌜ NetworkPast (now file) counts plants segments start ⌝ }
-    ensures { λ r. ⌜ SettlePromise (now (file .entry)) r ⌝ }
-{
-    let emissions = add_up(file, start, counts);
-    let answer = emissions.answer;
+    let gathered = gather(file);
+    let answer = gathered.answer;
     if let Answer::Refused(refusal) = answer {
         return refused(refusal);
     }
+    let plants = gathered.plants;
+    let segments = gathered.segments;
+    let counts = gathered.counts;
+    let emissions = gathered.emissions;
     settle_period(plants, segments, counts, emissions)
 }
 

@@ -5,7 +5,8 @@ use native.Mathlib.Omega.{arith}
 use lib.ListN.{length, take}
 use denote.Ref.{now}
 use Rattle.fields.specs.Lists.{filled}
-use Rattle.settling.proofs.Keeping.{column-start, front-on, front-length}
+use Rattle.gathering.proofs.Listing.{column-start}
+use Rattle.settling.proofs.ByColumns.{front-on, front-length}
 use Rattle.settling.proofs.account.narrow.Statement.{statement}
 use Rattle.settling.proofs.account.narrow.Tie as tie
 

@@ -4,7 +4,7 @@ use mathlib.Core.Path.{_≡_, refl}
 use native.Mathlib.Omega.{arith}
 use Rattle.records.specs.Plants.{mostPlants}
 use Rattle.settling.specs.Inside.{associatedBy}
-use Rattle.settling.proofs.Listing.{Filling, filling-start, filling-on}
+use Rattle.gathering.proofs.Listing.{Filling, filling-start, filling-on}
 use Rattle.settling.proofs.charges.associated_with.Statement.{statement}
 use Rattle.settling.proofs.charges.associated_with.Tie as tie
 

@@ -7,7 +7,7 @@ use Rattle.records.specs.Plants.{noPlant}
 use Rattle.records.specs.Within.{PlantWithin, mostCounts}
 use Rattle.records.proofs.Within.{each-at}
 use Rattle.settling.specs.Kept.{plantBy, plantsBy}
-use Rattle.settling.proofs.Listing.{listed-at}
+use Rattle.gathering.proofs.Listing.{listed-at}
 use Rattle.settling.proofs.Starting.{AtStart, none-started, one-started, all-started}
 use Rattle.settling.proofs.flow.start.Statement.{statement}
 use Rattle.settling.proofs.flow.start.Tie as tie

@@ -1,46 +1,50 @@
--- `settling::settling::settle` meets its contract: the header decides, and then the records behind it. Assumes nothing.
-use mathlib.Core.Path.{sym, ap, _∙_}
-use native.Mathlib.Omega.{arith}
+-- `settling::settling::settle` meets its contract: the file is gathered, and its segments are worked. Assumes nothing.
 use denote.Ref.{now}
 use borrow.Author.Needs.{needs}
-use Rattle.reading.specs.Found.{headerFound}
-use Rattle.settling.proofs.Answering.{header-out}
+use Rattle.settling.proofs.Answering.{file-out, settle-fits, settled-whole}
 use Rattle.settling.proofs.settling.settle.Statement.{statement}
 use Rattle.settling.proofs.settling.settle.Tie as tie
 
-read-header-requires : tie.Need-read-header-requires
-read-header-requires c κs = search needs
+gather-requires : tie.Need-gather-requires
+gather-requires c κs = search needs
 
-enum-known-refusal : tie.Need-enum-known-refusal
-enum-known-refusal c = search needs
+enum-known-answer : tie.Need-enum-known-answer
+enum-known-answer c = search needs
 
 refused-requires : tie.Need-refused-requires
 refused-requires c κs = search needs
 
-enum-known-counts : tie.Need-enum-known-counts
-enum-known-counts c = search needs
-
-settle-records-requires : tie.Need-settle-records-requires
-settle-records-requires c κs = sym (c .before .before .before .read-header .ensures) ∙ ap headerFound (c .before .counts .given .1)
-
 returns : tie.Need-returns
 returns c =
-    let r = c .before .before .before .before in
-    let told = c .before .before .refusal .given in
+    let gathered = c .before .before .before .before in
+    let told = c .before .before .answer .given in
     rw (c .refused .ensures)
-    (header-out (now (r .before .before .args .file)) (omega arith) (told .0 .0) (sym (r .read-header .ensures) ∙ ap headerFound (told .1)))
+    (file-out (now (gathered .before .before .args .file)) (gathered .gather .result) (gathered .gather .ensures) (told .0 .0) (told .1))
+
+enum-told : tie.Need-enum-told
+enum-told c = search needs
+
+settle-period-requires : tie.Need-settle-period-requires
+settle-period-requires c κs =
+    let told = c .before .before .before .before in
+    let gathered = told .before .before in
+    settle-fits (now (gathered .before .before .args .file)) (gathered .gather .result) (gathered .gather .ensures) (told .enum-told .given .1)
 
 returns-2 : tie.Need-returns-2
-returns-2 c = search needs
+returns-2 c =
+    let told = c .before .before .before .before .before in
+    let gathered = told .before .before in
+    settled-whole (now (gathered .before .before .args .file)) (gathered .gather .result) (gathered .gather .ensures) (told .enum-told .given .1)
+    _ (c .settle-period .ensures)
 
 pub settle-spec : {M : Type 1} → statement M
 settle-spec =
     tie.close
     (tie.spec
-    read-header-requires
-    enum-known-refusal
+    gather-requires
+    enum-known-answer
     refused-requires
-    enum-known-counts
-    settle-records-requires
     returns
+    enum-told
+    settle-period-requires
     returns-2)
