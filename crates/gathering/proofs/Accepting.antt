@@ -19,14 +19,14 @@ use Rattle.accounts.specs.Emissions.{ownedBy, gramsOf, gramsInKg, emission}
 use Rattle.accounts.proofs.Accepting.{grams-each}
 use Rattle.accounts.proofs.Credits.{up-most}
 use Rattle.accounts.proofs.OwnersLines.{no-grams}
-use Rattle.gathering.specs.Gathered.{gatheringTests, Gathering, nothingGathered, gatheredOf, gatheredAfter, gathering}
+use Rattle.gathering.specs.Gathered.{gatheringTests, Contents, nothingGathered, gatheredOf, gatheredAfter, gathering}
 
 -- ---- the verdict of tests decides: a refusal, or else what is gathered
-abbrev pub decided : Verdict → Gathering → Gathering
+abbrev pub decided : Verdict → Contents → Contents
 decided (refuses notice) gathered = nothingGathered notice
 decided accepts gathered = gathered
 
-pub tests-decide : (tests : List Test) (gathered : Gathering) → testedBy nothingGathered tests gathered ≡ decided (testedBy refuses tests accepts) gathered
+pub tests-decide : (tests : List Test) (gathered : Contents) → testedBy nothingGathered tests gathered ≡ decided (testedBy refuses tests accepts) gathered
 unfolding testedBy
 tests-decide [] gathered = refl
 tests-decide (test ∷ tests) gathered = by-test (test .fails) (tests-decide tests gathered)
@@ -39,7 +39,7 @@ tests-decide (test ∷ tests) gathered = by-test (test .fails) (tests-decide tes
     by-test false e = e
 
 -- ---- what holds of a file that is accepted
-pub record Bounded (gathered : Gathering) : Type 0 where
+pub record Bounded (gathered : Contents) : Type 0 where
   pub within : Within (gathered .period)
   pub most : (ownerKind owner : ℕ) → emission ownerKind owner (gathered .period .lines) ≤ largest
 
@@ -62,7 +62,7 @@ accepted-bounded file accepting = by-outcome (periodFile file) refl accepting
     by-outcome (refused notice) is told = absurd (refuses-not-accepts told)
     by-outcome (read period place at) is told =
         let tests = gatheringTests file period in
-        by-verdict (testedBy refuses tests accepts) refl (sym (ap (λ (g : Gathering). g .verdict) (tests-decide tests (gatheredOf file period))) ∙ told)
+        by-verdict (testedBy refuses tests accepts) refl (sym (ap (λ (g : Contents). g .verdict) (tests-decide tests (gatheredOf file period))) ∙ told)
       where
         by-verdict :
             (v : Verdict) → testedBy refuses (gatheringTests file period) accepts ≡ v → decided v (gatheredOf file period) .verdict ≡ accepts →

@@ -33,13 +33,13 @@ use Rattle.accounts.specs.Order.{lineTests}
 use Rattle.gathering.specs.declared.emissions.Added.{Added}
 use Rattle.gathering.specs.declared.network.Plants.{Plants}
 use Rattle.gathering.specs.declared.network.Segments.{Segments}
-use Rattle.gathering.specs.Gathered.{gatheringTests, Gathering, nothingGathered, gatheredOf, gatheredAfter, gathering, OwnerEmissions, Gathers, GatherPromise}
+use Rattle.gathering.specs.Gathered.{gatheringTests, Contents, nothingGathered, gatheredOf, gatheredAfter, gathering, OwnerEmissions, Gathers, GatherPromise}
 use Rattle.gathering.specs.Kept.{PlantsKept, SegmentsKept, PlantsPast, NetworkPast}
 use Rattle.gathering.specs.Inside.{linesRuling, AddedUp, noRecords}
 use Rattle.gathering.proofs.Accepting.{decided, tests-decide}
 
 -- a refusal keeps no record
-kept-refused : {gathered : Gathering} (why : Refusal) → gathered ≡ nothingGathered (noticeOf why) → Gathers (noRecords why) gathered
+kept-refused : {gathered : Contents} (why : Refusal) → gathered ≡ nothingGathered (noticeOf why) → Gathers (noRecords why) gathered
 unfolding filled listed
 kept-refused why e = rw e (record {
   verdict = refl;

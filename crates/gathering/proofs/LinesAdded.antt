@@ -34,7 +34,7 @@ use Rattle.records.proofs.Starts.{next-line-starts}
 use Rattle.accounts.specs.Emissions.{grams, ownedBy, gramsOf, inKg, emission}
 use Rattle.accounts.specs.Order.{lineTests}
 use Rattle.gathering.specs.declared.emissions.Totals.{Totals}
-use Rattle.gathering.specs.Gathered.{emissionColumn, OwnerEmissions}
+use Rattle.gathering.specs.Gathered.{ownerColumn, OwnerEmissions}
 use Rattle.gathering.specs.Inside.{noTotals, gramsAt, overGrams, withLine, firstOver, FewGrams, kgColumn, noneAdded, andThen, linesRuling, AddedUp}
 use Rattle.gathering.proofs.Listing.{listed-same}
 use Rattle.gathering.proofs.Totals.{owners, Owner, place-below, tenOf, Adding, Next, no-totals, grams-there, grams-elsewhere, adding-start, adding-on, adding-refused}
@@ -216,6 +216,6 @@ module _
           -- so the totals from a place on, in kg, are what the owners of a kind emit
           column :
               (ownerKind first count : ℕ) → ((o : ℕ) → o < count → Owner ownerKind (suc o) (first + o)) →
-              kgColumn totals first count ≡ emissionColumn ownerKind count done
+              kgColumn totals first count ≡ ownerColumn ownerKind count done
           column ownerKind first count owner =
               ap (filled 0 mostSegments) (listed-same _ _ count (λ o here. in-kg ownerKind (suc o) (first + o) (owner o here)))

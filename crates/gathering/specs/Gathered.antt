@@ -28,27 +28,27 @@ use Rattle.gathering.specs.declared.network.Segments.{Segments}
 abbrev pub gatheringTests : (file : List ℕ) → Period → List Test
 gatheringTests file period = lineTests (lineStart file (countsOf period)) (period .lines) 0 (period .lines)
 
--- ---- a gathering: the verdict, and of a file that is accepted its records and how many bytes it has
-pub record Gathering : Type 0 where
+-- ---- the contents of a file: the verdict and, if it is accepted, its records and how many bytes it has
+pub record Contents : Type 0 where
   pub verdict : Verdict
   pub period : Period
   pub bytes : ℕ
 
 -- A refusal has no records.
-abbrev pub nothingGathered : Notice → Gathering
+abbrev pub nothingGathered : Notice → Contents
 nothingGathered notice = record { verdict = refuses notice; period = periodOf [] [] []; bytes = 0 }
 
 -- An accepted file has those that were read, up to its end.
-abbrev pub gatheredOf : (file : List ℕ) → Period → Gathering
+abbrev pub gatheredOf : (file : List ℕ) → Period → Contents
 gatheredOf file period = record { verdict = accepts; period = period; bytes = length file }
 
 -- A refusal of reading decides; a period that was read is tested, and the first test that fails refuses (rule 8.8).
-abbrev pub gatheredAfter : (file : List ℕ) → Read Period → Gathering
+abbrev pub gatheredAfter : (file : List ℕ) → Read Period → Contents
 gatheredAfter file (refused notice) = nothingGathered notice
 gatheredAfter file (read period place at) = testedBy nothingGathered (gatheringTests file period) (gatheredOf file period)
 
--- The gathering of a file (rules 8.3 to 8.5).
-unfoldable pub gathering : List ℕ → Gathering
+-- What is gathered of a file (rules 8.3 to 8.5).
+unfoldable pub gathering : List ℕ → Contents
 gathering file = gatheredAfter file (periodFile file)
 
 -- ---- the promise of the call
@@ -68,23 +68,23 @@ pub record SegmentRecords (r : Segments) (segments : List Segment) : Type 0 wher
   pub next : r .next ≡ columnOf mostSegments (λ (segment : Segment). segment .next) segments
 
 -- The column of what the first `count` owners of a kind emit by these lines; both kinds have the same room (rule 4.3).
-abbrev pub emissionColumn : (ownerKind count : ℕ) → List Line → List ℕ
-emissionColumn ownerKind count lines = filled 0 mostSegments (listed (λ (index : ℕ). emission ownerKind (suc index) lines) 0 count)
+abbrev pub ownerColumn : (ownerKind count : ℕ) → List Line → List ℕ
+ownerColumn ownerKind count lines = filled 0 mostSegments (listed (λ (index : ℕ). emission ownerKind (suc index) lines) 0 count)
 
 -- Those of so many plants and segments.
 pub record OwnerEmissions (r : Emissions) (counts : Counts) (lines : List Line) : Type 0 where
-  pub plants : r .plants ≡ emissionColumn plantOwner (counts .plants) lines
-  pub segments : r .segments ≡ emissionColumn segmentOwner (counts .segments) lines
+  pub plants : r .plants ≡ ownerColumn plantOwner (counts .plants) lines
+  pub segments : r .segments ≡ ownerColumn segmentOwner (counts .segments) lines
 
--- What the code's answer says of a gathering: the verdict, how many records there are, their columns, what they emit, and how many bytes were read.
-pub record Gathers (r : Gathered) (gathered : Gathering) : Type 0 where
-  pub verdict : said (r .answer) ≡ gathered .verdict
-  pub counts : r .counts ≡ countsOf (gathered .period)
-  pub plants : PlantRecords (r .plants) (gathered .period .plants)
-  pub segments : SegmentRecords (r .segments) (gathered .period .segments)
-  pub emissions : OwnerEmissions (r .emissions) (countsOf (gathered .period)) (gathered .period .lines)
-  pub bytes : r .emissions .bytes ≡ gathered .bytes
+-- What the code's answer says of the contents: the verdict, how many records there are, their columns, what they emit, and how many bytes were read.
+pub record Gathers (r : Gathered) (contents : Contents) : Type 0 where
+  pub verdict : said (r .answer) ≡ contents .verdict
+  pub counts : r .counts ≡ countsOf (contents .period)
+  pub plants : PlantRecords (r .plants) (contents .period .plants)
+  pub segments : SegmentRecords (r .segments) (contents .period .segments)
+  pub emissions : OwnerEmissions (r .emissions) (countsOf (contents .period)) (contents .period .lines)
+  pub bytes : r .emissions .bytes ≡ contents .bytes
 
--- The promise of `gather`: its answer is the gathering of the file (rules 2.1 to 4.3, 8.1 to 8.5 and 8.9).
+-- The promise of `gather`: its answer is what is gathered of the file (rules 2.1 to 4.3, 8.1 to 8.5 and 8.9).
 abbrev pub GatherPromise : List ℕ → Gathered → Type 0
 GatherPromise file r = Gathers r (gathering file)

@@ -18,7 +18,7 @@ use Rattle.records.specs.Within.{CountsWithin, countsOf}
 use Rattle.accounts.specs.Order.{segmentTests}
 use Rattle.accounts.specs.Quantified.{accountsOf}
 use Rattle.gathering.specs.declared.gathering.Gathered.{Gathered}
-use Rattle.gathering.specs.Gathered.{gatheringTests, Gathering, nothingGathered, gatheredOf, gatheredAfter, gathering, GatherPromise}
+use Rattle.gathering.specs.Gathered.{gatheringTests, Contents, nothingGathered, gatheredOf, gatheredAfter, gathering, GatherPromise}
 use Rattle.gathering.proofs.Accepting.{Bounded, accepted-bounded}
 use Rattle.settling.specs.declared.settling.Settled.{Settled}
 use Rattle.settling.specs.Settled.{Settlement, nothingSettled, settledOf, settledBy, settledPeriod, settledAfter, settlement, Settles, SettlePromise}
@@ -32,7 +32,7 @@ abbrev decided : Verdict → Settlement → Settlement
 decided (refuses notice) settled = nothingSettled notice
 decided accepts settled = settled
 
-abbrev settledFrom : Gathering → Settlement
+abbrev settledFrom : Contents → Settlement
 settledFrom gathered = decided (gathered .verdict) (workedOff (gathered .bytes) (gathered .period))
 
 module _ (file : List ℕ) where

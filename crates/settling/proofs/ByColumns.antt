@@ -18,7 +18,7 @@ use Rattle.records.specs.Segments.{mostSegments, noSegment}
 use Rattle.accounts.specs.Emissions.{emission}
 use Rattle.gathering.specs.declared.network.Plants.{Plants}
 use Rattle.gathering.specs.declared.network.Segments.{Segments}
-use Rattle.gathering.specs.Gathered.{PlantRecords, SegmentRecords, emissionColumn}
+use Rattle.gathering.specs.Gathered.{PlantRecords, SegmentRecords, ownerColumn}
 use Rattle.gathering.proofs.Listing.{listed-same, listed-all, listed-at, filled-on, filled-at, filled-length, column-at}
 use Rattle.settling.specs.Kept.{plantBy, plantsBy, segmentBy, segmentsBy}
 use Rattle.settling.specs.Inside.{Small}
@@ -45,7 +45,7 @@ segments-are columns segments kept =
     ∙ listed-all segments noSegment
 
 -- ---- the column of what the owners of a kind emit by some lines
-module _ (ownerKind count : ℕ) (lines : List Line) (column : List ℕ) (is : column ≡ emissionColumn ownerKind count lines) where
+module _ (ownerKind count : ℕ) (lines : List Line) (column : List ℕ) (is : column ≡ ownerColumn ownerKind count lines) where
   abbrev all : List ℕ
   all = listed (λ (index : ℕ). emission ownerKind (suc index) lines) 0 count
 

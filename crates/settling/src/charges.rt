@@ -21,11 +21,15 @@ pub(crate) fn associated_with(
     requires { ⌜ AllChargeable (now amounts) (now inflows) emissions counts ⌝ }
     ensures { λ r. ⌜ Associated (now (amounts .entry)) (now (inflows .entry)) emissions counts r ⌝ }
 {
-    let kg = emissions.segments;
     let mut associated = [0u64; Plant::MOST];
     let mut p = 0;
     while p < counts.plants as usize {
-        let charges = charges(&amounts[p], inflows, &kg, counts.segments as usize);
+        let charges = charges(
+            &amounts[p],
+            inflows,
+            &emissions.segments,
+            counts.segments as usize,
+        );
         associated[p] = emissions.plants[p] + charges;
         p += 1;
     }

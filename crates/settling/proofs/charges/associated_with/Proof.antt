@@ -9,11 +9,11 @@ use Rattle.settling.proofs.charges.associated_with.Statement.{statement
 use Rattle.settling.proofs.charges.associated_with.Tie as tie
 
 abbrev Inv-loop : tie.InvT-loop
-Inv-loop amounts inflows counts emissions kg associated₀ p₀ associated p =
+Inv-loop amounts inflows counts emissions associated₀ p₀ associated p =
     (p ≤ counts .plants) × Filling 0 mostPlants (associatedBy amounts inflows emissions counts) associated p
 
 abbrev μ-loop : tie.MeasureT-loop
-μ-loop amounts inflows counts emissions kg associated₀ p₀ associated p = counts .plants - p
+μ-loop amounts inflows counts emissions associated₀ p₀ associated p = counts .plants - p
 
 loop-holds : tie.Need-loop-holds Inv-loop μ-loop
 loop-holds c = (omega arith, filling-start 0 mostPlants _)
@@ -22,12 +22,12 @@ mul-charges : tie.Need-mul-charges Inv-loop μ-loop
 mul-charges c = omega arith
 
 index-1-charges : tie.Need-index-1-charges Inv-loop μ-loop
-index-1-charges c = omega (arith, c .loop-test .taken, c .before .before .before .pre .counts-within .most-plants)
+index-1-charges c = omega (arith, c .loop-test .taken, c .before .before .pre .counts-within .most-plants)
 
 charges-requires : tie.Need-charges-requires Inv-loop μ-loop
 charges-requires c κs =
-    let turn = c .before .before in
-    let pre = turn .before .before .before .pre in
+    let turn = c .before .before .before in
+    let pre = turn .before .before .pre in
     let p = turn .before .loop .p in
     let inside : p < mostPlants = omega (arith, turn .loop-test .taken, pre .counts-within .most-plants) in
     (pre .counts-within .most-segments, ((pre .inflows-sized, pre .small .sized, pre .sized .amounts p inside), pre .each p (turn .loop-test .taken)))
@@ -41,7 +41,7 @@ element-copy-out-associated c = omega arith
 add-associated : tie.Need-add-associated Inv-loop μ-loop
 add-associated c =
     let pre = c .before .before .before .before .before .before .before .pre in
-    omega (arith, pre .small .plants (c .before .before .before .before .before .loop .p), pre .counts-within .most-segments, c .before .charges .ensures .1)
+    omega (arith, pre .small .plants (c .before .before .before .before .before .before .loop .p), pre .counts-within .most-segments, c .before .charges .ensures .1)
 
 mul-associated-2 : tie.Need-mul-associated-2 Inv-loop μ-loop
 mul-associated-2 c = omega arith
@@ -57,13 +57,13 @@ loop-less c = omega arith
 
 loop-again : tie.Need-loop-again Inv-loop μ-loop
 loop-again c =
-    let l = c .before .before .before .before .before .loop in
+    let l = c .before .before .before .before .before .before .loop in
     (omega arith, filling-on 0 mostPlants _ (l .associated) (l .p) _ (l .inv .1) (omega arith) (rw (c .before .charges .ensures .0) refl))
 
 returns : tie.Need-returns Inv-loop μ-loop
 returns c =
     let l = c .before .loop in
-    let all : l .p ≡ c .before .before .before .args .counts .plants = omega (arith, l .inv .0, c .loop-test .left) in
+    let all : l .p ≡ c .before .before .args .counts .plants = omega (arith, l .inv .0, c .loop-test .left) in
     rw all at (l .inv .1)
 
 pub associated-with-spec : {M : Type 1} → statement M
