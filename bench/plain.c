@@ -10,7 +10,8 @@ enum { EDITION = 1, MOST_PLANTS = STEEPLECUFF_MOST_PLANTS, MOST_SEGMENTS = STEEP
 enum { WHOLE_FRACTION = 1000000, MOST_FACTOR = 1000000000 };
 enum { FIRST_KIND = 1, STORE = 6 };
 enum { PLANT_OWNER = 0, SEGMENT_OWNER = 1 };
-enum { FIRST_PLANT_CLASS = 1, LAST_PLANT_CLASS = 8, FIRST_SEGMENT_CLASS = 3, LAST_SEGMENT_CLASS = 7 };
+enum { FIRST_PLANT_CLASS = 1, LAST_PLANT_CLASS = 9, FIRST_SEGMENT_CLASS = 3, LAST_SEGMENT_CLASS = 7 };
+enum { FUEL = 3, CAPTURED = 9 }; /* two of the classes: CAPTURED is fossil CO2 captured with the rest, of plants alone */
 
 /* Measures. */
 enum { GRAMS_A_KG = 1000, KG_A_UNIT = 1000, BYTE_BITS = 8 };
@@ -39,6 +40,7 @@ struct period {
 /* The results of the period; plants and segments are counted from 0. */
 struct accounts {
     uint64_t plant_grams[MOST_PLANTS], segment_grams[MOST_SEGMENTS];
+    uint64_t fuel_grams[MOST_PLANTS], captured_grams[MOST_PLANTS]; /* of each plant's lines of these two classes */
     uint64_t inflow[MOST_SEGMENTS];
     uint32_t passing[MOST_SEGMENTS]; /* the set of plants: bit p for plant p from 0 */
     uint64_t stored[MOST_PLANTS], charged[MOST_PLANTS];
@@ -100,6 +102,7 @@ static uint32_t read_owner_and_class(struct reader *reader, const struct period 
     return read_field(reader, FIRST_SEGMENT_CLASS, LAST_SEGMENT_CLASS, refusal, &line->class);
 }
 
+/* What is captured is given in kg, so its factor is the grams of a kg and nothing else. */
 static uint32_t read_line(struct reader *reader, const struct period *period, struct line *line)
 {
     const uint32_t refusal = STEEPLECUFF_REFUSED_LINE_FIELD;
@@ -107,9 +110,11 @@ static uint32_t read_line(struct reader *reader, const struct period *period, st
     uint32_t fault = read_owner_and_class(reader, period, line);
     if (fault == 0)
         fault = read_field(reader, 0, LARGEST, refusal, &line->quantity);
-    if (fault == 0)
-        fault = read_field(reader, 0, MOST_FACTOR, refusal, &line->factor);
-    return fault;
+    if (fault != 0)
+        return fault;
+    if (line->class == CAPTURED)
+        return read_field(reader, GRAMS_A_KG, GRAMS_A_KG, refusal, &line->factor);
+    return read_field(reader, 0, MOST_FACTOR, refusal, &line->factor);
 }
 
 /* Reads the whole file: refusals 1 to 9, the place and the offset in the reader. */
@@ -127,19 +132,41 @@ static uint32_t read_period(struct reader *reader, struct period *period)
     return fault;
 }
 
-/* Adds up the grams of each owner: refusal 10. */
+/* Adds up the grams of each owner without those captured: refusal 10; and apart from that, each plant's grams of fuel and
+   those captured. The latter have no limit and need none: 512 lines of at most 4 * 10^12 g fit. */
 static uint32_t add_grams(const struct period *period, struct accounts *accounts, uint64_t *place, uint64_t *offset)
 {
     for (uint32_t l = 0; l < period->lines; l++) {
         const struct line *line = &period->line[l];
-        uint64_t *owners = line->owner_kind == PLANT_OWNER ? accounts->plant_grams : accounts->segment_grams;
-        uint64_t *grams = &owners[line->owner - 1];
-        *grams += (uint64_t)line->quantity * line->factor;
-        if (*grams > MOST_GRAMS) {
+        uint32_t owner = line->owner - 1;
+        uint64_t grams = (uint64_t)line->quantity * line->factor;
+        if (line->class == CAPTURED) {
+            accounts->captured_grams[owner] += grams;
+            continue;
+        }
+        bool plant = line->owner_kind == PLANT_OWNER;
+        if (plant && line->class == FUEL)
+            accounts->fuel_grams[owner] += grams;
+        uint64_t *total = plant ? &accounts->plant_grams[owner] : &accounts->segment_grams[owner];
+        *total += grams;
+        if (*total > MOST_GRAMS) {
             *place = l + 1;
             *offset = line->start;
             return STEEPLECUFF_REFUSED_GRAMS_OVER_LIMIT;
         }
+    }
+    return 0;
+}
+
+/* Takes off what each plant captured, which is at most what its fuel gave: refusal 16. */
+static uint32_t take_captured_off(const struct period *period, struct accounts *accounts, uint64_t *place)
+{
+    for (uint32_t p = 0; p < period->plants; p++) {
+        if (accounts->captured_grams[p] > accounts->fuel_grams[p]) {
+            *place = p + 1;
+            return STEEPLECUFF_REFUSED_CAPTURED_OVER_FUEL;
+        }
+        accounts->plant_grams[p] -= accounts->captured_grams[p];
     }
     return 0;
 }
@@ -301,12 +328,15 @@ static void write_tables(const struct period *period, const struct accounts *acc
                                kg_of(accounts->segment_grams[s]), accounts->passing[s]);
 }
 
-/* Refusals 10 to 15, then the tables; `*offset` is the file's length at first, which is that of 11 to 15. */
+/* Refusals 10, 16 and 11 to 15, in this order, then the tables; `*offset` is the file's length at first, which is that of
+   all but 10. */
 static uint32_t account(const struct period *period, uint8_t *plants, size_t plants_len, uint8_t *segments,
                         size_t segments_len, uint64_t *place, uint64_t *offset)
 {
     struct accounts accounts = {0};
     uint32_t fault = add_grams(period, &accounts, place, offset);
+    if (fault == 0)
+        fault = take_captured_off(period, &accounts, place);
     if (fault == 0)
         fault = walk(period, &accounts, place);
     if (fault == 0)

@@ -66,6 +66,7 @@ static const char *const reasons[] = {
     [STEEPLECUFF_REFUSED_INFLOW_OVER_LIMIT] = "a segment's inflow is too large",
     [STEEPLECUFF_REFUSED_OUTFLOW_OVER_INFLOW] = "a segment's outflow is larger than its inflow",
     [STEEPLECUFF_REFUSED_EMISSION_WITHOUT_INFLOW] = "a segment has emissions and no inflow",
+    [STEEPLECUFF_REFUSED_CAPTURED_OVER_FUEL] = "a plant captured more fossil CO2 than its fuel gave",
     /* cannot happen here, since both tables have room for every file; a historian with shorter tables can get these two */
     [STEEPLECUFF_REFUSED_PLANT_TABLE_SHORT] = "the plant table is too short",
     [STEEPLECUFF_REFUSED_SEGMENT_TABLE_SHORT] = "the segment table is too short",

@@ -25,11 +25,14 @@
  * The version of this header and of the archive that it goes with. Its first part changes if callers have to change
  * their code.
  *
+ * New in 2.1.0: a plant's line may have class 9, fossil CO2 captured with the rest, and a file can be refused with 16.
+ * The calls stay as they are. A caller that looks refusals up in a list, as examples/historian.c does, needs 16 in it.
+ *
  * New in 2.0.0: both calls have one more parameter, offset, as their last. So calls have to be written and compiled
  * again. What was compiled for 1.1.0 can still be linked, but must not be: it lends no offset, and the call would write
  * to a wrong address. All else is as in 1.1.0: numbers of refusal, places, tables and figures.
  */
-#define STEEPLECUFF_VERSION "2.0.0"
+#define STEEPLECUFF_VERSION "2.1.0"
 
 #ifdef __cplusplus
 extern "C" {
@@ -41,7 +44,7 @@ enum steeplecuff_plant_number {
     STEEPLECUFF_PLANT_STORED,     /* what the store credited to it */
     STEEPLECUFF_PLANT_LOST,       /* exported - stored */
     STEEPLECUFF_PLANT_GROSS,      /* stored x origin fraction, rounded down */
-    STEEPLECUFF_PLANT_ASSOCIATED, /* its own emissions and all its charges */
+    STEEPLECUFF_PLANT_ASSOCIATED, /* its own emissions, less its class 9, and all its charges */
     STEEPLECUFF_PLANT_NET,        /* gross - associated; 0 if that is negative */
     STEEPLECUFF_PLANT_UNITS,      /* whole tonnes of net: the removal units */
     STEEPLECUFF_PLANT_DEFICIT,    /* associated - gross; 0 if that is negative */
@@ -85,8 +88,9 @@ enum steeplecuff_count_byte { STEEPLECUFF_PLANTS_BYTE = 1, STEEPLECUFF_SEGMENTS_
 
 /*
  * What a call answers (rule 8.1); behind each colon is what its place then counts. "number" is the number of the file at
- * fault, counted from 0; lines and segments are counted from 1. P, S and L are the file's counts of plants, segments and
- * lines.
+ * fault, counted from 0; lines, plants and segments are counted from 1. P, S and L are the file's counts of plants,
+ * segments and lines. Only the first reason is answered (rule 8.8); 16 is tested directly after 10, to which class 9 does
+ * not count (rule 8.10).
  *
  * A sheet can get 0, 1, 2, 3, 5 and 9, with the same meaning for the sheet as for a file (rule 12.7). Its number 0 is the
  * count of days, which 5 refuses; its number d is the reading of day d; so the place of 9 is one more than the days.
@@ -107,7 +111,8 @@ enum steeplecuff_answer {
     STEEPLECUFF_REFUSED_OUTFLOW_OVER_INFLOW = 12,     /* an outflow is larger than the inflow: segment */
     STEEPLECUFF_REFUSED_EMISSION_WITHOUT_INFLOW = 13, /* a segment has emissions and no inflow: segment */
     STEEPLECUFF_REFUSED_PLANT_TABLE_SHORT = 14,       /* the plant table has fewer than 8P numbers: 8P */
-    STEEPLECUFF_REFUSED_SEGMENT_TABLE_SHORT = 15      /* the segment table has fewer than 5S numbers: 5S */
+    STEEPLECUFF_REFUSED_SEGMENT_TABLE_SHORT = 15,     /* the segment table has fewer than 5S numbers: 5S */
+    STEEPLECUFF_REFUSED_CAPTURED_OVER_FUEL = 16       /* a plant has more grams of class 9 than of fuel: plant */
 };
 
 /*
@@ -120,7 +125,7 @@ enum steeplecuff_answer {
  *   4 to 8     the first byte of the field's number
  *   9          the first byte behind the last number
  *   10         the first byte of the line's first number
- *   11 to 15   the length of the file: no single byte is at fault
+ *   11 to 16   the length of the file: no single byte is at fault
  *
  * The answers to a sheet have the same offsets, counted in the sheet. No offset is larger than the length.
  */

@@ -74,7 +74,8 @@ usage: reference answer numbers|readings|historian|historian-days
            writes the five figures of the sheet on standard input, or its refusal
        reference cases periods SEED COUNT
            writes COUNT cases of whole periods with their answers, one line each;
-           SEED and COUNT are whole numbers, and the paper's own cases come first
+           SEED and COUNT are whole numbers, and the paper's own cases come first, then
+           small ones about captured fossil CO2
        reference cases sheets SEED COUNT
            the same for sheets, some worked out by hand first
 a refusal is printed in one line: R, its number, its place, and its byte in the file";

@@ -21,6 +21,7 @@ pub enum Reason {
     EmissionWithoutInflow = 13,
     PlantTableShort = 14,
     SegmentTableShort = 15,
+    CapturedAboveFuel = 16,
 }
 
 impl Reason {

@@ -165,16 +165,16 @@ fn calls_for_sheets_are_answered_with_all_they_leave() {
 fn program_agrees_with_itself() {
     for (what, suites) in [
         ("numbers", 6),
-        ("readings", 12),
-        ("historian", 15),
+        ("readings", 13),
+        ("historian", 17),
         ("historian-days", 15),
     ] {
         let output = run(&["compare", what, "--", REFERENCE, "answer", what], &[]);
         assert_passed(&output, suites);
     }
     for (what, command, suites) in [
-        ("rows", "rows", 6),
-        ("inspections", "inspect", 13),
+        ("rows", "rows", 7),
+        ("inspections", "inspect", 14),
         ("days", "days", 11),
     ] {
         let output = run(&["compare", what, "--", REFERENCE, command], &[]);
@@ -195,7 +195,7 @@ fn program_that_answers_other_questions_fails() {
     let output = run(&other, &[]);
     let report = text(&output.stdout);
     assert!(report.contains("expected \"A 1 2 2 2 10000 "));
-    assert_eq!(report.lines().last(), Some("0 passed, 12 failed"));
+    assert_eq!(report.lines().last(), Some("0 passed, 13 failed"));
     assert_eq!(output.status.code(), Some(1));
 }
 
@@ -206,7 +206,7 @@ fn program_that_leaves_the_historian_without_answers_fails() {
     let report = text(&output.stdout);
     assert!(report.contains("expected refusal 0, place 0 and offset 0, came only 8 of 228 bytes"));
     assert!(report.contains("case 2: bytes [], plant table of 128 bytes, "));
-    assert_eq!(report.lines().last(), Some("0 passed, 15 failed"));
+    assert_eq!(report.lines().last(), Some("0 passed, 17 failed"));
     assert_eq!(output.status.code(), Some(1));
 }
 
@@ -216,7 +216,7 @@ fn program_that_prints_on_standard_error_fails() {
     let output = run(&other, &[]);
     let report = text(&output.stdout);
     assert!(report.contains("standard error is not empty: \"a frame starts with the byte 0x01, "));
-    assert_eq!(report.lines().last(), Some("0 passed, 6 failed"));
+    assert_eq!(report.lines().last(), Some("0 passed, 7 failed"));
     assert_eq!(output.status.code(), Some(1));
 }
 
@@ -227,7 +227,7 @@ fn program_that_prints_other_than_the_page_fails() {
     let report = text(&output.stdout);
     assert!(report.contains("line 1: expected \"0 0 1 edition\", came \"P 1 10000 9931 "));
     assert!(report.contains("case 1: 65535 bytes [01 01 01 00 "));
-    assert_eq!(report.lines().last(), Some("0 passed, 13 failed"));
+    assert_eq!(report.lines().last(), Some("0 passed, 14 failed"));
     assert_eq!(output.status.code(), Some(1));
 }
 
@@ -300,6 +300,49 @@ fn rows_of_an_accepted_file_are_written() {
          S 1 15001 14900 101 268 3\n\
          S 2 14900 14899 1 0 3\n"
     );
+    assert_eq!(output.status.code(), Some(0));
+}
+
+/// The whole period with two lines of the first plant: fuel of 5000 g, and so many captured kg.
+fn period_with_captured(kg: u8) -> Vec<u8> {
+    let fuel = [0x00, 0x01, 0x03, 0x02, 0xC4, 0x13];
+    let captured = [0x00, 0x01, 0x09, kg, 0xE8, 0x07];
+    [&WHOLE_PERIOD[..24], &captured, &fuel].concat()
+}
+
+#[test]
+fn captured_fossil_co2_is_taken_from_fuel() {
+    for (kg, row) in [
+        (0, "P 1 10000 9931 69 9931 5 9926 9 0\n"),
+        (4, "P 1 10000 9931 69 9931 1 9930 9 0\n"),
+        (5, "P 1 10000 9931 69 9931 0 9931 9 0\n"),
+    ] {
+        let output = run(&["rows"], &period_with_captured(kg));
+        assert!(text(&output.stdout).starts_with(row));
+        assert_eq!(output.status.code(), Some(0));
+    }
+    let output = run(&["rows"], &period_with_captured(6));
+    assert_eq!(text(&output.stdout), "R 16 1 36\n");
+    assert_eq!(output.status.code(), Some(1));
+}
+
+#[test]
+fn factor_of_captured_fossil_co2_is_a_field() {
+    let mut file = period_with_captured(5);
+    file[28] = 0xE9;
+    for command in ["rows", "inspect"] {
+        let output = run(&[command], &file);
+        assert!(text(&output.stdout).contains("R 8 20 28\n"));
+        assert_eq!(output.status.code(), Some(1));
+    }
+}
+
+#[test]
+fn page_does_not_look_at_what_is_captured() {
+    let output = run(&["inspect"], &period_with_captured(6));
+    let page = text(&output.stdout);
+    assert!(page.contains("\n18 26 9 line 1 class\n19 27 6 line 1 quantity\n"));
+    assert!(page.ends_with("\n25 34 2500 line 2 factor\nE 26 36\n"));
     assert_eq!(output.status.code(), Some(0));
 }
 
@@ -398,6 +441,7 @@ fn cases_of_periods_are_written_one_to_a_line() {
     assert_eq!(lines[1], "16 10 - R 1 0 0");
     assert_eq!(lines[3], "16 10 8000 R 2 0 0");
     assert!(lines[14].ends_with(" R 14 16 37"));
+    assert!(lines[15].contains(" A 10000 9931 69 9931 0 9931 9 0 "));
     assert_eq!(output.status.code(), Some(0));
 
     let none = run(&["cases", "periods", "7", "0"], &[]);

@@ -1,6 +1,7 @@
 /* calls [guarded]: calls steeplecuff_quantify as the historian does and checks every byte of what comes back: for the
-   worked period and its changes (rule 13.11), tables of many lengths, every cut, and the longest file. Prints a line for
-   each call, begun before it is made, so that the last line shows where the program died; then 'N passed, M failed'. */
+   worked period and its changes (rule 13.11), among them lines of class 9, tables of many lengths, every cut, and the
+   longest file. Prints a line for each call, begun before it is made, so that the last line shows where the program died;
+   then 'N passed, M failed'. */
 #include <stdio.h>
 #include <string.h>
 
@@ -14,8 +15,9 @@ enum { PLANTS = 2, SEGMENTS = 2 }; /* of the worked period, from which all accep
 enum { PLANT_ENTRIES = PLANTS * STEEPLECUFF_PLANT_NUMBERS, SEGMENT_ENTRIES = SEGMENTS * STEEPLECUFF_SEGMENT_NUMBERS };
 enum { PLANT_BYTES = PLANT_ENTRIES * STEEPLECUFF_NUMBER_BYTES, SEGMENT_BYTES = SEGMENT_ENTRIES * STEEPLECUFF_NUMBER_BYTES };
 enum { NUMBER = STEEPLECUFF_NUMBER_BYTES, BYTE_BITS = 8 };
-enum { MOST_EDITS = 4, EXTRA_BYTES = 1, MOST_CASE_BYTES = 13, NAME_BYTES = 80 };
+enum { MOST_EDITS = 7, EXTRA_BYTES = 1, MOST_CASE_BYTES = 13, NAME_BYTES = 80 };
 enum { WHOLE_BYTES = 37 }; /* the length of the worked period */
+enum { PLANT_OWNER = 0, FUEL = 3, CAPTURED = 9, KG_FACTOR = 1000 }; /* of lines; the factor is that of class 9 */
 
 struct rows {
     uint64_t plants[PLANT_ENTRIES];
@@ -69,6 +71,27 @@ static const struct rows no_loss_rows = {
      5001, 4967, 34, 4470, 90, 4380, 4, 0},
     {15001, 15001, 0, 268, 3,
      15001, 14899, 102, 0, 3}};
+
+/* Segment 1 has no line, so that nobody is charged; plant 1 has stored all CO2 of its fuel and emits nothing. */
+static const struct rows all_captured_rows = {
+    {10000, 9931, 69, 9931, 0, 9931, 9, 0,
+     5001, 4968, 33, 4471, 0, 4471, 4, 0},
+    {15001, 14900, 101, 0, 3,
+     14900, 14899, 1, 0, 3}};
+
+/* The same; of plant 1's 700,350 g of fuel it has stored 699 kg. What is left, 1,350 g, is rounded up to 2 kg. */
+static const struct rows part_captured_rows = {
+    {10000, 9931, 69, 9931, 2, 9929, 9, 0,
+     5001, 4968, 33, 4471, 0, 4471, 4, 0},
+    {15001, 14900, 101, 0, 3,
+     14900, 14899, 1, 0, 3}};
+
+/* The same; plant 1 has its electricity and no fuel. */
+static const struct rows none_captured_rows = {
+    {10000, 9931, 69, 9931, 700, 9231, 9, 0,
+     5001, 4968, 33, 4471, 0, 4471, 4, 0},
+    {15001, 14900, 101, 0, 3,
+     14900, 14899, 1, 0, 3}};
 
 static struct one_call call;
 
@@ -137,8 +160,8 @@ static void check_bytes(void)
         check_refused(cases[i].name, cases[i].bytes, cases[i].len, cases[i].answer);
 }
 
-/* Puts the worked period with its changes to the call. */
-static void check_edited(const struct edited *edited)
+/* Puts the worked period with its changes to the call, with tables of these lengths. */
+static void check_edited(const struct edited *edited, struct lengths lengths)
 {
     uint32_t numbers[WHOLE_PERIOD_NUMBERS];
     uint8_t file[WHOLE_PERIOD_NUMBERS * MOST_NUMBER_BYTES];
@@ -146,7 +169,7 @@ static void check_edited(const struct edited *edited)
     for (size_t edit = 0; edit < edited->edits; edit++)
         numbers[edited->edit[edit].at] = edited->edit[edit].number;
     size_t len = put_numbers(file, numbers, WHOLE_PERIOD_NUMBERS);
-    check(edited->name, (struct bytes){file, len}, exact, edited->expected);
+    check(edited->name, (struct bytes){file, len}, lengths, edited->expected);
 }
 
 /* The proved cases that change figures of the worked period (rule 13.11). */
@@ -164,7 +187,7 @@ static void check_edits(void)
          {{13, 1, WHOLE_BYTES - 4}, NULL}},
     };
     for (size_t i = 0; i < sizeof cases / sizeof cases[0]; i++)
-        check_edited(&cases[i]);
+        check_edited(&cases[i], exact);
 }
 
 /* Further changes, so that each refusal is met behind numbers of several bytes, or if it has none before it, at one.
@@ -185,7 +208,61 @@ static void check_offsets(void)
         {"second outflow 14901", 1, {{SECOND_OUTFLOW, 14901}}, {{12, 2, WHOLE_BYTES}, NULL}},
     };
     for (size_t i = 0; i < sizeof cases / sizeof cases[0]; i++)
-        check_edited(&cases[i]);
+        check_edited(&cases[i], exact);
+}
+
+/* Line 2 is class 9, fossil CO2 captured with the rest, and line 1 plant 1's fuel or electricity (rules 3.3, 4.4 and 8.10).
+   Line 2 begins at byte 31; its factor at 35, or at 36 if its quantity takes two bytes. */
+static void check_captured(void)
+{
+    static const struct edited cases[] = {
+        {"all of the fuel captured", 5,
+         {{FIRST_CLASS, FUEL}, {SECOND_OWNER_KIND, PLANT_OWNER}, {SECOND_CLASS, CAPTURED}, {SECOND_QUANTITY, 700},
+          {SECOND_FACTOR, KG_FACTOR}},
+         {{0, 0, 0}, &all_captured_rows}},
+        {"a part of the fuel captured", 6,
+         {{FIRST_CLASS, FUEL}, {FIRST_QUANTITY, 2001}, {SECOND_OWNER_KIND, PLANT_OWNER}, {SECOND_CLASS, CAPTURED},
+          {SECOND_QUANTITY, 699}, {SECOND_FACTOR, KG_FACTOR}},
+         {{0, 0, 0}, &part_captured_rows}},
+        {"as much fuel as there may be, all captured", 7,
+         {{FIRST_CLASS, FUEL}, {FIRST_QUANTITY, 4000000000}, {FIRST_FACTOR, 1000}, {SECOND_OWNER_KIND, PLANT_OWNER},
+          {SECOND_CLASS, CAPTURED}, {SECOND_QUANTITY, 4000000000}, {SECOND_FACTOR, KG_FACTOR}},
+         {{0, 0, 0}, &all_captured_rows}},
+        {"no fuel, and 0 kg captured", 4,
+         {{SECOND_OWNER_KIND, PLANT_OWNER}, {SECOND_CLASS, CAPTURED}, {SECOND_QUANTITY, 0}, {SECOND_FACTOR, KG_FACTOR}},
+         {{0, 0, 0}, &none_captured_rows}},
+        {"1 kg more captured than burnt", 5,
+         {{FIRST_CLASS, FUEL}, {SECOND_OWNER_KIND, PLANT_OWNER}, {SECOND_CLASS, CAPTURED}, {SECOND_QUANTITY, 701},
+          {SECOND_FACTOR, KG_FACTOR}},
+         {{16, 1, WHOLE_BYTES + 1}, NULL}},
+        {"captured by plant 2, and the fuel is plant 1's", 5,
+         {{FIRST_CLASS, FUEL}, {SECOND_OWNER_KIND, PLANT_OWNER}, {SECOND_OWNER, 2}, {SECOND_CLASS, CAPTURED},
+          {SECOND_FACTOR, KG_FACTOR}},
+         {{16, 2, WHOLE_BYTES}, NULL}},
+        {"captured and no fuel, before an outflow over the inflow", 4,
+         {{FIRST_OUTFLOW, 15002}, {SECOND_OWNER_KIND, PLANT_OWNER}, {SECOND_CLASS, CAPTURED}, {SECOND_FACTOR, KG_FACTOR}},
+         {{16, 1, WHOLE_BYTES}, NULL}},
+        {"captured and no fuel, after grams over the limit", 5,
+         {{FIRST_QUANTITY, 4000000000}, {FIRST_FACTOR, 1001}, {SECOND_OWNER_KIND, PLANT_OWNER}, {SECOND_CLASS, CAPTURED},
+          {SECOND_FACTOR, KG_FACTOR}},
+         {{10, 1, 24}, NULL}},
+        {"captured with the factor 999", 5,
+         {{FIRST_CLASS, FUEL}, {SECOND_OWNER_KIND, PLANT_OWNER}, {SECOND_CLASS, CAPTURED}, {SECOND_QUANTITY, 700},
+          {SECOND_FACTOR, KG_FACTOR - 1}},
+         {{8, 25, 36}, NULL}},
+        {"captured with the factor 1001", 4,
+         {{FIRST_CLASS, FUEL}, {SECOND_OWNER_KIND, PLANT_OWNER}, {SECOND_CLASS, CAPTURED}, {SECOND_FACTOR, KG_FACTOR + 1}},
+         {{8, 25, 35}, NULL}},
+        {"captured by a segment", 2, {{SECOND_CLASS, CAPTURED}, {SECOND_FACTOR, KG_FACTOR}}, {{8, 23, 33}, NULL}},
+        {"a class behind the last", 1, {{FIRST_CLASS, CAPTURED + 1}}, {{8, 18, 26}, NULL}},
+    };
+    static const struct edited no_room = {
+        "captured and no fuel, both tables empty", 3,
+        {{SECOND_OWNER_KIND, PLANT_OWNER}, {SECOND_CLASS, CAPTURED}, {SECOND_FACTOR, KG_FACTOR}},
+        {{16, 1, WHOLE_BYTES}, NULL}};
+    for (size_t i = 0; i < sizeof cases / sizeof cases[0]; i++)
+        check_edited(&cases[i], exact);
+    check_edited(&no_room, (struct lengths){0, 0});
 }
 
 /* The worked period with tables of many lengths, and with one byte more behind it. */
@@ -274,6 +351,7 @@ int main(int argc, char **argv)
     check_bytes();
     check_edits();
     check_offsets();
+    check_captured();
     check_lengths();
     check_cuts();
     check_longest();

@@ -4,6 +4,7 @@ use mathlib.Core.Path.{_≡_, refl, sym, ap, _∙_}
 use mathlib.Core.Bool.{Bool, true, false, cond, _&&_, true≢false}
 use mathlib.Core.List.{List, [], _∷_, _++_}
 use mathlib.Core.Logic.{_⊎_, inl, inr}
+use native.Mathlib.Nat.{add-zero, zero-add}
 use native.Mathlib.Numerals.{add-one}
 use native.Mathlib.Omega.{arith}
 use lib.Dec.{ltb, eqb}
@@ -12,26 +13,27 @@ use lib.Seq.{drop-drop}
 use borrow.Author.Tests.{ltb-false, lt-ltb, eq-eqb}
 use Rattle.number.specs.Groups.{largest}
 use Rattle.fields.specs.Readers.{Read, read, refused}
-use Rattle.fields.specs.Tests.{Test, NoneFails, holds}
+use Rattle.fields.specs.Tests.{Test, NoneFails, holds, listed}
 use Rattle.fields.proofs.Testing.{none-answers, none-of-both}
 use Rattle.records.specs.declared.line.Line.{Line}
 use Rattle.records.specs.declared.counts.Counts.{Counts}
+use Rattle.records.specs.Classes.{plantOwner}
 use Rattle.records.specs.Lines.{mostGrams}
 use Rattle.records.specs.Periods.{Period, periodFile}
 use Rattle.records.specs.Places.{lineStart}
 use Rattle.records.specs.Held.{recordsOf}
 use Rattle.records.specs.Within.{Within, countsOf}
 use Rattle.records.proofs.Within.{read-within}
-use Rattle.accounts.specs.Emissions.{grams, ownedBy, gramsOf}
+use Rattle.accounts.specs.Emissions.{grams, gramsOf, ofClasses, isAdded, addedGrams, fuelGrams, capturedGrams}
 use Rattle.accounts.specs.Accounts.{Account, account}
 use Rattle.accounts.specs.Rows.{plantRows, segmentRows}
-use Rattle.accounts.specs.Order.{refusal, accepted, lineTests, segmentTests, plantNumbers, segmentNumbers, tableTests}
+use Rattle.accounts.specs.Order.{refusal, accepted, lineTests, fuelTest, emissionTests, segmentTests, plantNumbers, segmentNumbers, tableTests}
 use Rattle.accounts.specs.Quantified.{started, turnsOf, accountsOf, stores, rows, judged, afterReading, quantified}
 use Rattle.accounts.specs.Accepted.{Accepted, held}
 use Rattle.accounts.specs.Shares.{noTurn, accountAt}
 use Rattle.accounts.proofs.Testing.{refusal-not-accepted, none-fails}
 use Rattle.accounts.proofs.Passing.{getD-map, turns-length}
-use Rattle.accounts.proofs.OwnersLines.{owner-is, no-grams, grams-with, grams-of-both}
+use Rattle.accounts.proofs.OwnersLines.{owner-is, is-owned, no-grams, grams-with, grams-of-both}
 
 -- ---- what the lines satisfy if 10 refuses none of them
 -- a total is the one up to any line and that of the lines behind it
@@ -39,36 +41,48 @@ grams-split :
     (choose : Line → Bool) (lines : List Line) (done : ℕ) → gramsOf choose lines ≡ gramsOf choose (take done lines) + gramsOf choose (drop done lines)
 grams-split choose lines done = ap (gramsOf choose) (sym (take-append-drop done lines)) ∙ grams-of-both choose (take done lines) (drop done lines)
 
--- no owner's total passes the limit: its own lines are tested with the total up to them, and the lines of others add nothing to it
+-- no owner's total passes the limit: its own lines are tested with the total up to them, and other lines add nothing to it
 pub grams-each :
     (starts : ℕ → ℕ) (ownerKind owner : ℕ) (lines : List Line) (done : ℕ) (left : List Line) → drop done lines ≡ left →
-    NoneFails (lineTests starts lines done left) → gramsOf (ownedBy ownerKind owner) (take done lines) ≤ mostGrams →
-    gramsOf (ownedBy ownerKind owner) lines ≤ mostGrams
+    NoneFails (lineTests starts lines done left) → addedGrams ownerKind owner (take done lines) ≤ mostGrams →
+    addedGrams ownerKind owner lines ≤ mostGrams
 unfolding lineTests
 grams-each starts ownerKind owner lines done [] is none few =
-    let its = ownedBy ownerKind owner in
+    let its = ofClasses isAdded ownerKind owner in
     let behind : gramsOf its (drop done lines) ≡ 0 = ap (gramsOf its) is ∙ no-grams its in
     omega (arith, grams-split its lines done)
 grams-each starts ownerKind owner lines done (line ∷ left) is (holds test more) few =
-    grams-each starts ownerKind owner lines (suc done) left left-is more (by-owner (ownedBy ownerKind owner line) refl)
+    grams-each starts ownerKind owner lines (suc done) left left-is more (by-owner (ofClasses isAdded ownerKind owner line) refl)
   where
     left-is : drop (suc done) lines ≡ left
     left-is = ap (λ (n : ℕ). drop n lines) (sym (add-one done)) ∙ sym (drop-drop 1 done lines) ∙ ap (drop 1) is
 
     one-more :
-        gramsOf (ownedBy ownerKind owner) (take (suc done) lines)
-        ≡ gramsOf (ownedBy ownerKind owner) (take done lines) + cond (ownedBy ownerKind owner line) (grams line) 0
+        addedGrams ownerKind owner (take (suc done) lines)
+        ≡ addedGrams ownerKind owner (take done lines) + cond (ofClasses isAdded ownerKind owner line) (grams line) 0
     one-more =
-        let its = ownedBy ownerKind owner in
+        let its = ofClasses isAdded ownerKind owner in
         let here = ap (gramsOf its) is ∙ grams-with its line left in
         let behind = ap (gramsOf its) left-is in
         omega (arith, grams-split its lines done, grams-split its lines (suc done), here, behind)
 
-    by-owner : (its : Bool) → ownedBy ownerKind owner line ≡ its → gramsOf (ownedBy ownerKind owner) (take (suc done) lines) ≤ mostGrams
+    by-owner : (its : Bool) → ofClasses isAdded ownerKind owner line ≡ its → addedGrams ownerKind owner (take (suc done) lines) ≤ mostGrams
     by-owner true o =
-        let same = owner-is ownerKind owner line o in
-        rw (← same .0, ← same .1) (ltb-false mostGrams (gramsOf (ownedBy (line .«owner_kind») (line .owner)) (take (suc done) lines)) test)
+        let same = owner-is ownerKind owner line (is-owned ownerKind owner isAdded line o) in
+        rw (← same .0, ← same .1) (ltb-false mostGrams (addedGrams (line .«owner_kind») (line .owner) (take (suc done) lines)) test)
     by-owner false o = omega (arith, rw o at one-more, few)
+
+-- ---- what the plants satisfy if 16 refuses none of them: no more is captured than the fuel gives
+captured-each :
+    (bytes : ℕ) (lines : List Line) (from count : ℕ) → NoneFails (listed (fuelTest bytes lines) from count) →
+    (index : ℕ) → index < count → capturedGrams plantOwner (suc (from + index)) lines ≤ fuelGrams plantOwner (suc (from + index)) lines
+unfolding listed
+captured-each bytes lines from zero passing index below = absurd (omega (arith, below))
+captured-each bytes lines from (suc count) (holds test more) zero below =
+    rw (add-zero from) (ltb-false (fuelGrams plantOwner (suc from) lines) (capturedGrams plantOwner (suc from) lines) test)
+captured-each bytes lines from (suc count) (holds test more) (suc index) below =
+    let behind : from + suc index ≡ suc from + index = omega arith in
+    rw behind (captured-each bytes lines (suc from) count more index (omega (arith, below)))
 
 -- ---- what a segment's account satisfies if 11, 12 and 13 do not refuse it
 pub record Sound (a : Account) : Type 0 where
@@ -109,7 +123,9 @@ table-room bytes counts plantTable segmentTable (holds p (holds s rest)) =
 -- ---- the whole period
 pub record Means (period : Period) (plants segments : List ℕ) : Type 0 where
   pub within : Within period
-  pub grams : (ownerKind owner : ℕ) → gramsOf (ownedBy ownerKind owner) (period .lines) ≤ mostGrams
+  pub grams : (ownerKind owner : ℕ) → addedGrams ownerKind owner (period .lines) ≤ mostGrams
+  pub captured :
+      (index : ℕ) → index < length (period .plants) → capturedGrams plantOwner (suc index) (period .lines) ≤ fuelGrams plantOwner (suc index) (period .lines)
   pub sound : (index : ℕ) → index < length (period .segments) → Sound (accountAt period index)
   pub plants-are : plants ≡ plantRows (period .lines) (accountsOf period) 0 (period .plants) (stores period)
   pub segments-are : segments ≡ segmentRows (accountsOf period)
@@ -130,9 +146,12 @@ account-at period index none below =
 module _
     (file : List ℕ) (period : Period) (plantTable segmentTable : ℕ) (plants segments : List ℕ)
     (accepting : judged file period (accountsOf period) plantTable segmentTable ≡ accepted plants segments) where
-  -- its tests that are left after reading: of the lines, of the segments, of the tables
+  -- its tests that are left after reading: of the lines and what is captured, of the segments, of the tables
   abbrev of-lines : List Test
   of-lines = lineTests (lineStart file (countsOf period)) (period .lines) 0 (period .lines)
+
+  abbrev of-captured : List Test
+  of-captured = listed (fuelTest (length file) (period .lines)) 0 (length (period .plants))
 
   abbrev of-segments : List Test
   of-segments = segmentTests (length file) (accountsOf period)
@@ -141,19 +160,22 @@ module _
   of-tables = tableTests (length file) (countsOf period) plantTable segmentTable
 
   -- none of its tests fails, and the answer is its rows
-  none : NoneFails (of-lines ++ (of-segments ++ of-tables))
-  unfolding judged
-  none = none-fails (of-lines ++ (of-segments ++ of-tables)) (rows period (accountsOf period)) plants segments accepting
+  none : NoneFails ((of-lines ++ of-captured) ++ (of-segments ++ of-tables))
+  unfolding judged emissionTests
+  none = none-fails ((of-lines ++ of-captured) ++ (of-segments ++ of-tables)) (rows period (accountsOf period)) plants segments accepting
 
   rows-are : rows period (accountsOf period) ≡ accepted plants segments
-  unfolding judged
+  unfolding judged emissionTests
   rows-are = sym (none-answers refusal (rows period (accountsOf period)) none) ∙ accepting
 
-  -- nor does one of those behind the lines
-  none-behind : NoneFails (of-segments ++ of-tables)
-  none-behind = none-of-both of-lines (of-segments ++ of-tables) none .1
+  -- nor does one of those of emissions, or of those behind them
+  none-of-emissions : NoneFails (of-lines ++ of-captured)
+  none-of-emissions = none-of-both (of-lines ++ of-captured) (of-segments ++ of-tables) none .0
 
-  -- so it is within the limits of 10 to 13
+  none-behind : NoneFails (of-segments ++ of-tables)
+  none-behind = none-of-both (of-lines ++ of-captured) (of-segments ++ of-tables) none .1
+
+  -- so it is within the limits of 10 to 13 and 16
   judged-means : Within period → Means period plants segments
   unfolding rows
   judged-means within =
@@ -163,8 +185,12 @@ module _
         grams =
             λ ownerKind owner.
             grams-each (lineStart file (countsOf period))
-            ownerKind owner (period .lines) 0 (period .lines) refl (none-of-both of-lines (of-segments ++ of-tables) none .0)
-            (omega (arith, no-grams (ownedBy ownerKind owner)));
+            ownerKind owner (period .lines) 0 (period .lines) refl (none-of-both of-lines of-captured none-of-emissions .0)
+            (omega (arith, no-grams (ofClasses isAdded ownerKind owner)));
+        captured =
+            λ index below.
+            rw (zero-add index)
+            at (captured-each (length file) (period .lines) 0 (length (period .plants)) (none-of-both of-lines of-captured none-of-emissions .1) index below);
         sound =
             λ index below.
             let a : Account = accountAt period index in

@@ -1,5 +1,5 @@
 -- The worked period with its four rows, and fourteen changes of it, as one statement about the definitions (rule 13.11). And two lines of
--- one owner, which are rounded once (rule 4.3).
+-- one owner, which are rounded once (rule 4.3), of which one may be taken off (rule 4.4).
 use Prim.Native.Nat.{ℕ}
 use mathlib.Core.Path.{_≡_, refl}
 use mathlib.Core.List.{List, [], _∷_, _++_, zipWith, flatMap}
@@ -9,9 +9,9 @@ use Rattle.number.specs.Counting.{startOf}
 use Rattle.number.specs.Writing.{writing, written}
 use Rattle.fields.specs.Answers.{notice}
 use Rattle.fields.specs.Readers.{each, reads}
-use Rattle.fields.specs.Tests.{testedBy}
+use Rattle.fields.specs.Tests.{testedBy, listed}
 use Rattle.fields.specs.Lists.{sum}
-use Rattle.records.specs.Classes.{plantOwner, classes, classAllowed}
+use Rattle.records.specs.Classes.{plantOwner, classes, classOf}
 use Rattle.records.specs.Lines.{lineOf}
 use Rattle.records.specs.Headers.{header}
 use Rattle.records.specs.Periods.{plant, segment, line, records, period, periodFile}
@@ -19,7 +19,7 @@ use Rattle.accounts.specs.Emissions.{chosen, gramsOf, emission}
 use Rattle.accounts.specs.Flow.{creditsFrom, passed, turns, arrived}
 use Rattle.accounts.specs.Accounts.{setOf, account}
 use Rattle.accounts.specs.Rows.{plantRows, segmentRows}
-use Rattle.accounts.specs.Order.{refusal, accepted, lineTests, segmentTests}
+use Rattle.accounts.specs.Order.{refusal, accepted, lineTests, emissionTests, segmentTests}
 use Rattle.accounts.specs.Quantified.{accountsOf, rows, judged, quantified}
 use Rattle.accounts.specs.Accepted.{held}
 
@@ -96,8 +96,8 @@ pub examples :
     × (quantified (file (numbers 0 0 0 6 0 2000 350)) 16 10 ≡ refusal (notice 13 1 33))
     -- a plant table that is one number short
     × (quantified whole 15 10 ≡ refusal (notice 14 16 37))
-unfolding gather value padded reading formed writing written flatMap zipWith classes classAllowed readAt startOf each reads header plant segment line
-    records period periodFile sum chosen gramsOf emission creditsFrom passed turns arrived setOf account plantRows segmentRows testedBy lineTests
+unfolding gather value padded reading formed writing written flatMap zipWith classes classOf readAt startOf each reads header plant segment line
+    records period periodFile sum chosen gramsOf emission creditsFrom passed turns arrived setOf account plantRows segmentRows testedBy listed lineTests emissionTests
     segmentTests accountsOf rows judged quantified held
 examples = (
   refl,
@@ -121,5 +121,12 @@ examples = (
 pub two-lines :
     let line = lineOf plantOwner 1 3 500 1 in
     emission plantOwner 1 (line ∷ line ∷ []) ≡ 1
-unfolding sum chosen gramsOf emission
+unfolding sum classes classOf chosen gramsOf emission
 two-lines = refl
+
+-- what is captured is taken off the fuel before the total is rounded, wherever its line stands: 1200 g or 2000 g less 1 kg are 1 kg (rule 4.4)
+pub taken-off :
+    let captured = lineOf plantOwner 1 9 1 1000 in
+    (emission plantOwner 1 (lineOf plantOwner 1 3 1200 1 ∷ captured ∷ []) ≡ 1) × (emission plantOwner 1 (captured ∷ lineOf plantOwner 1 3 2000 1 ∷ []) ≡ 1)
+unfolding sum classes classOf chosen gramsOf emission
+taken-off = (refl, refl)

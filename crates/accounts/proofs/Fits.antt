@@ -16,11 +16,11 @@ use Rattle.records.specs.declared.counts.Counts.{Counts}
 use Rattle.records.specs.declared.plant.Plant.{Plant}
 use Rattle.records.specs.Plants.{noPlant, millionths}
 use Rattle.records.specs.Segments.{mostSegments}
-use Rattle.records.specs.Classes.{plantOwner, segmentOwner}
+use Rattle.records.specs.Classes.{plantOwner, segmentOwner, gramsInKg}
 use Rattle.records.specs.Periods.{Period}
 use Rattle.records.specs.Within.{countsOf, PlantWithin}
 use Rattle.records.proofs.Within.{each-at}
-use Rattle.accounts.specs.Emissions.{gramsInKg, gramsOf, emission, ownedBy}
+use Rattle.accounts.specs.Emissions.{addedGrams, capturedGrams, emission}
 use Rattle.accounts.specs.Flow.{Standing, nowhere, atFirst, brings, Turn, arrived}
 use Rattle.accounts.specs.Accounts.{Account, account, chargeTo, charges}
 use Rattle.accounts.specs.Rows.{kgInUnit, plantRow, associated, segmentRow}
@@ -114,7 +114,9 @@ module _ {period : Period} {plants segments : List ℕ} (means : Means period pl
   emission-most : (ownerKind owner : ℕ) → emission ownerKind owner (period .lines) ≤ largest
   unfolding emission
   emission-most ownerKind owner =
-      up-most gramsInKg (gramsOf (ownedBy ownerKind owner) (period .lines)) largest (omega (arith, means .grams ownerKind owner))
+      up-most
+      gramsInKg (addedGrams ownerKind owner (period .lines) - capturedGrams ownerKind owner (period .lines)) largest
+      (omega (arith, means .grams ownerKind owner))
 
   -- nor is any charge, as no plant brings more than the inflow
   charge-largest : (index : ℕ) (turn : Turn) → chargeTo index (account (period .lines) turn) ≤ largest

@@ -3,11 +3,11 @@
 use Prim.Native.Nat.{ℕ, _≤_}
 use mathlib.Core.List.{List}
 use Rattle.records.specs.Lines.{mostGrams}
-use Rattle.accounts.specs.Emissions.{ownedBy, gramsOf}
+use Rattle.accounts.specs.Emissions.{addedGrams}
 use Rattle.accounts.specs.Accepted.{Accepted, held}
 use Rattle.accounts.proofs.Accepting.{accepted-means}
 
 pub grams-within :
     {file plants segments : List ℕ} → Accepted file plants segments → (ownerKind owner : ℕ) →
-    gramsOf (ownedBy ownerKind owner) (held file .lines) ≤ mostGrams
+    addedGrams ownerKind owner (held file .lines) ≤ mostGrams
 grams-within given = accepted-means given .grams

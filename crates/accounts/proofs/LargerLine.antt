@@ -1,10 +1,11 @@
--- More of a quantity in one line, and all else the same: if both periods are accepted, no plant gains a unit by it (rule 13.7).
--- Whose line it is does not matter. The flow does not depend on lines, so every plant stores the same in both periods. Every owner's
--- emission is no less, so no plant is charged less at any segment, and what is associated with it can only lower its net amount.
-use Prim.Native.Nat.{ℕ, suc, _*_, _≤_, _<_}
-use mathlib.Core.Path.{_≡_}
-use mathlib.Core.Bool.{Bool, true, false, cond}
-use mathlib.Core.List.{List, [], _∷_, _++_, map}
+-- More of a quantity in one line, and all else the same, if both periods are accepted: in a line of emissions no plant gains a unit by it
+-- (rule 13.7), in a line of CO2 captured none loses one (rule 13.12). Whose line it is does not matter. The flow does not depend on lines, so
+-- every plant stores the same in both periods. Where no owner emits less, no plant is charged less at any segment, and what is associated with
+-- it can only lower its net amount.
+use Prim.Native.Nat.{ℕ, suc, _+_, _≤_, _<_}
+use mathlib.Core.Path.{_≡_, sym}
+use mathlib.Core.Bool.{Bool, true, false, cond, and-false}
+use mathlib.Core.List.{List, [], _∷_, map}
 use native.Mathlib.Nat.{mul-le-mul-right}
 use native.Mathlib.Omega.{arith}
 use lib.ListN.{length, getD}
@@ -12,10 +13,11 @@ use Rattle.fields.specs.Lists.{sum}
 use Rattle.records.specs.declared.plant.Plant.{Plant}
 use Rattle.records.specs.declared.line.Line.{Line}
 use Rattle.records.specs.Plants.{noPlant}
-use Rattle.records.specs.Classes.{plantOwner, segmentOwner}
+use Rattle.records.specs.Classes.{plantOwner, segmentOwner, gramsInKg}
 use Rattle.records.specs.Lines.{lineOf}
 use Rattle.records.specs.Periods.{Period}
-use Rattle.accounts.specs.Emissions.{grams, ownedBy, gramsOf, gramsInKg, emission}
+use Rattle.records.proofs.Classes.{added-alone, captured-alone}
+use Rattle.accounts.specs.Emissions.{grams, ownedBy, gramsOf, ofClasses, isAdded, isCaptured, emission}
 use Rattle.accounts.specs.Flow.{nowhere, Turn}
 use Rattle.accounts.specs.Accounts.{account, charges}
 use Rattle.accounts.specs.Rows.{kgInUnit, plantRow, associated}
@@ -23,46 +25,73 @@ use Rattle.accounts.specs.Order.{plantNumbers}
 use Rattle.accounts.specs.Quantified.{turnsOf, accountsOf, stores}
 use Rattle.accounts.specs.Accepted.{Accepted, held}
 use Rattle.accounts.specs.RowsAndColumns.{inRow, unitsColumn}
-use Rattle.accounts.specs.Changes.{OneLineLarger}
+use Rattle.accounts.specs.Changes.{OneLineLarger, EmissionLine, CapturedLine}
 use Rattle.accounts.proofs.Credits.{div-mono}
 use Rattle.accounts.proofs.OwnersLines.{grams-with, grams-of-both}
 use Rattle.accounts.proofs.Charges.{charge-no-less}
 use Rattle.accounts.proofs.Accepting.{accepted-means}
 use Rattle.accounts.proofs.RowsAt.{plant-row-at}
 
--- ---- with one line's larger quantity, every owner's grams are no less
-grams-no-less :
-    (ownerKind owner : ℕ) (before : List Line) (line : Line) (after : List Line) (quantity : ℕ) → line .quantity ≤ quantity →
-    gramsOf (ownedBy ownerKind owner) (before ++ line ∷ after)
-    ≤ gramsOf (ownedBy ownerKind owner) (before ++ lineOf (line .«owner_kind») (line .owner) (line .class) quantity (line .factor) ∷ after)
-grams-no-less ownerKind owner before line after quantity more =
-    let its = ownedBy ownerKind owner in
-    let other = lineOf (line .«owner_kind») (line .owner) (line .class) quantity (line .factor) in
-    omega (
-      arith,
-      grams-of-both its before (line ∷ after),
-      grams-of-both its before (other ∷ after),
-      grams-with its line after,
-      grams-with its other after,
-      by-owner (its line),
-    )
-  where
-    by-owner : (its : Bool) → cond its (grams line) 0 ≤ cond its (quantity * line .factor) 0
-    by-owner true = mul-le-mul-right (line .factor) more
-    by-owner false = omega arith
+-- ---- with one line's larger quantity, an owner's grams of some classes
+module _ {one two : Period} (larger : OneLineLarger one two) (these : ℕ → Bool) (ownerKind owner : ℕ) where
+  abbrev its : Line → Bool
+  its = ofClasses these ownerKind owner
 
-module _ {one two : Period} (larger : OneLineLarger one two) where
-  -- nor is any emission less
-  emission-no-less : (ownerKind owner : ℕ) → emission ownerKind owner (one .lines) ≤ emission ownerKind owner (two .lines)
+  -- the line with its larger quantity
+  abbrev other : Line
+  other = let line = larger .line in lineOf (line .«owner_kind») (line .owner) (line .class) (larger .quantity) (line .factor)
+
+  -- what the lines give in both periods
+  smaller-is : gramsOf its (one .lines) ≡ gramsOf its (larger .before) + (cond (its (larger .line)) (grams (larger .line)) 0 + gramsOf its (larger .after))
+  smaller-is =
+      rw (larger .lines) (omega (arith, grams-of-both its (larger .before) (larger .line ∷ larger .after), grams-with its (larger .line) (larger .after)))
+
+  larger-is : gramsOf its (two .lines) ≡ gramsOf its (larger .before) + (cond (its (larger .line)) (grams other) 0 + gramsOf its (larger .after))
+  larger-is =
+      rw (larger .lines-larger) (omega (arith, grams-of-both its (larger .before) (other ∷ larger .after), grams-with its other (larger .after)))
+
+  -- are no less
+  grams-no-less : gramsOf its (one .lines) ≤ gramsOf its (two .lines)
+  grams-no-less = omega (arith, smaller-is, larger-is, by-owner (its (larger .line)))
+    where
+      by-owner : (t : Bool) → cond t (grams (larger .line)) 0 ≤ cond t (grams other) 0
+      by-owner true = mul-le-mul-right (larger .line .factor) (larger .no-less)
+      by-owner false = omega arith
+
+  -- and are the same if the line is of none of these classes
+  grams-same : these (larger .line .class) ≡ false → gramsOf its (two .lines) ≡ gramsOf its (one .lines)
+  grams-same none =
+      let left-out : its (larger .line) ≡ false = rw none (and-false (ownedBy ownerKind owner (larger .line))) in
+      omega (arith, rw left-out at smaller-is, rw left-out at larger-is)
+
+-- ---- so is every owner's emission
+module _ {one two : Period} (larger : OneLineLarger one two) (ownerKind owner : ℕ) where
+  -- no less, if the line's grams are added
+  emission-no-less : EmissionLine (larger .line) → emission ownerKind owner (one .lines) ≤ emission ownerKind owner (two .lines)
   unfolding emission
-  emission-no-less ownerKind owner =
-      rw (larger .lines, larger .lines-larger)
-      (div-mono
+  emission-no-less emits =
+      div-mono
       gramsInKg _ _
       (omega
-      (arith, grams-no-less ownerKind owner (larger .before) (larger .line) (larger .after) (larger .quantity) (larger .no-less))))
+      (arith, grams-no-less larger isAdded ownerKind owner, grams-same larger isCaptured ownerKind owner (added-alone (larger .line .class) emits)))
 
-  -- nor are all charges of a plant: its amounts and the inflows are the same
+  -- and no more, if they are taken off
+  emission-no-more : CapturedLine (larger .line) → emission ownerKind owner (two .lines) ≤ emission ownerKind owner (one .lines)
+  unfolding emission
+  emission-no-more captures =
+      div-mono
+      gramsInKg _ _
+      (omega
+      (arith, grams-no-less larger isCaptured ownerKind owner, grams-same larger isAdded ownerKind owner (captured-alone (larger .line .class) captures)))
+
+-- ---- two periods with the same plants and segments, in the second of which no owner emits less
+pub record NoLess (one two : Period) : Type 0 where
+  pub plants : two .plants ≡ one .plants
+  pub segments : two .segments ≡ one .segments
+  pub emissions : (ownerKind owner : ℕ) → emission ownerKind owner (one .lines) ≤ emission ownerKind owner (two .lines)
+
+module _ {one two : Period} (no-less : NoLess one two) where
+  -- all charges of a plant are no less: its amounts and the inflows are the same
   charges-no-less :
       (index : ℕ) (turns : List Turn) → charges index (map (account (one .lines)) turns) ≤ charges index (map (account (two .lines)) turns)
   unfolding sum
@@ -70,7 +99,7 @@ module _ {one two : Period} (larger : OneLineLarger one two) where
   charges-no-less index (turn ∷ turns) =
       omega (
         arith,
-        charge-no-less (one .lines) (two .lines) turn (emission-no-less segmentOwner (turn .own)) index,
+        charge-no-less (one .lines) (two .lines) turn (no-less .emissions segmentOwner (turn .own)) index,
         charges-no-less index turns,
       )
 
@@ -88,7 +117,7 @@ module _ {one two : Period} (larger : OneLineLarger one two) where
   associated-no-less : (index : ℕ) → associated (one .lines) (accountsOf one) index ≤ associated (two .lines) (accountsOf two) index
   unfolding accountsOf
   associated-no-less index =
-      rw turns-unchanged (omega (arith, emission-no-less plantOwner (suc index), charges-no-less index (turnsOf one)))
+      rw turns-unchanged (omega (arith, no-less .emissions plantOwner (suc index), charges-no-less index (turnsOf one)))
 
 -- ---- the units of a plant that stores the same, if no less is associated with it
 units-no-more :
@@ -97,15 +126,37 @@ units-no-more :
 units-no-more plant stored less more h = div-mono kgInUnit _ _ (omega arith)
 
 -- so it is with the units in the plant's row
-pub larger-line :
+units-in-row :
     {file₁ plants₁ segments₁ file₂ plants₂ segments₂ : List ℕ} → Accepted file₁ plants₁ segments₁ → Accepted file₂ plants₂ segments₂ →
-    OneLineLarger (held file₁) (held file₂) → (index : ℕ) → index < length (held file₁ .plants) →
+    NoLess (held file₁) (held file₂) → (index : ℕ) → index < length (held file₁ .plants) →
     inRow plantNumbers index unitsColumn plants₂ ≤ inRow plantNumbers index unitsColumn plants₁
-larger-line {file₁} accepted₁ accepted₂ larger index below =
+units-in-row {file₁} accepted₁ accepted₂ no-less index below =
     rw (
-      plant-row-at (accepted-means accepted₂) index (rw (larger .plants) below),
+      plant-row-at (accepted-means accepted₂) index (rw (no-less .plants) below),
       plant-row-at (accepted-means accepted₁) index below,
-      stores-unchanged larger,
-      plant-unchanged larger index,
+      stores-unchanged no-less,
+      plant-unchanged no-less index,
     )
-    (units-no-more (getD (held file₁ .plants) index noPlant) (getD (stores (held file₁)) index nowhere .amount) _ _ (associated-no-less larger index))
+    (units-no-more (getD (held file₁ .plants) index noPlant) (getD (stores (held file₁)) index nowhere .amount) _ _ (associated-no-less no-less index))
+
+-- ---- one line's larger quantity
+module _
+    {file₁ plants₁ segments₁ file₂ plants₂ segments₂ : List ℕ} (accepted₁ : Accepted file₁ plants₁ segments₁) (accepted₂ : Accepted file₂ plants₂ segments₂)
+    (larger : OneLineLarger (held file₁) (held file₂)) (index : ℕ) (below : index < length (held file₁ .plants)) where
+  -- gives no plant more units, if it is a line of emissions
+  pub larger-line : EmissionLine (larger .line) → inRow plantNumbers index unitsColumn plants₂ ≤ inRow plantNumbers index unitsColumn plants₁
+  larger-line emits =
+      units-in-row accepted₁ accepted₂
+      (record { plants = larger .plants; segments = larger .segments; emissions = λ ownerKind owner. emission-no-less larger ownerKind owner emits })
+      index below
+
+  -- and no plant fewer, if it is one of CO2 captured
+  pub larger-captured : CapturedLine (larger .line) → inRow plantNumbers index unitsColumn plants₁ ≤ inRow plantNumbers index unitsColumn plants₂
+  larger-captured captures =
+      units-in-row accepted₂ accepted₁
+      (record {
+        plants = sym (larger .plants);
+        segments = sym (larger .segments);
+        emissions = λ ownerKind owner. emission-no-more larger ownerKind owner captures;
+      })
+      index (rw (larger .plants) below)

@@ -25,8 +25,10 @@ pub mod Balance
 pub mod Meeting
 mod AlongRoutes
 pub mod AloneOnItsRoute
--- No plant gains from a larger line; another plant's fraction and lines do not matter; what the charges add up to.
+-- No plant gains from a larger line of emissions, nor loses from one of CO2 captured, which is taken off fuel alone; another plant's fraction and
+-- lines do not matter; what the charges add up to.
 pub mod LargerLine
+pub mod CapturedFuel
 pub mod OthersFractionAndLines
 pub mod ChargesAddUp
 pub mod ChargesCounted

@@ -1,6 +1,6 @@
 -- The numbers of refusal. None is 0, which tells a C caller that its file is accepted; and a refusal up to 9 is that of reading, since the tests
 -- that come after reading refuse with 10 or more.
-use Prim.Native.Nat.{ℕ, suc, _≤_, _<_}
+use Prim.Native.Nat.{ℕ, zero, suc, _≤_, _<_}
 use mathlib.Core.Path.{_≡_}
 use mathlib.Core.List.{List, [], _∷_, _++_}
 use native.Mathlib.Omega.{arith}
@@ -9,7 +9,7 @@ use Rattle.fields.specs.declared.reason.Reason.the-variants.{BytesAfter, TooMan
 use Rattle.fields.specs.Answers.{Notice}
 use Rattle.fields.specs.Readers.{Read, read, refused}
 use Rattle.fields.specs.Reasons.{numberOf}
-use Rattle.fields.specs.Tests.{Test, FirstFails, here, later}
+use Rattle.fields.specs.Tests.{Test, FirstFails, here, later, listed}
 use Rattle.fields.proofs.Testing.{first-numbered}
 use Rattle.records.specs.declared.line.Line.{Line}
 use Rattle.records.specs.declared.counts.Counts.{Counts}
@@ -17,7 +17,7 @@ use Rattle.records.specs.Periods.{Period}
 use Rattle.records.specs.Places.{lineStart}
 use Rattle.records.specs.Within.{countsOf}
 use Rattle.accounts.specs.Accounts.{Account}
-use Rattle.accounts.specs.Order.{refusal, lineTests, segmentTests, tableTests}
+use Rattle.accounts.specs.Order.{refusal, lineTests, fuelTest, emissionTests, segmentTests, tableTests}
 use Rattle.accounts.specs.Quantified.{accountsOf, rows, judged, afterReading, quantified}
 use Rattle.accounts.proofs.Testing.{first-fails}
 use Rattle.accounts.proofs.Order.{refused-exactly}
@@ -50,6 +50,18 @@ unfolding FromTen lineTests
 of-lines starts lines done [] = tt
 of-lines starts lines done (line ∷ left) = (omega arith, of-lines starts lines (suc done) left)
 
+-- 16
+of-captured : (bytes : ℕ) (lines : List Line) (from count : ℕ) → FromTen (listed (fuelTest bytes lines) from count)
+unfolding FromTen listed
+of-captured bytes lines from zero = tt
+of-captured bytes lines from (suc count) = (omega arith, of-captured bytes lines (suc from) count)
+
+-- both
+of-emissions : (starts : ℕ → ℕ) (bytes plants : ℕ) (lines : List Line) → FromTen (emissionTests starts bytes plants lines)
+unfolding emissionTests
+of-emissions starts bytes plants lines =
+    both (lineTests starts lines 0 lines) (listed (fuelTest bytes lines) 0 plants) (of-lines starts lines 0 lines) (of-captured bytes lines 0 plants)
+
 -- 11, 12 and 13
 of-segments : (bytes : ℕ) (accounts : List Account) → FromTen (segmentTests bytes accounts)
 unfolding FromTen segmentTests
@@ -59,11 +71,11 @@ of-segments bytes (a ∷ accounts) = (omega arith, (omega arith, (omega arith, o
 -- and then 14 and 15: all that come after reading
 after-reading :
     (starts : ℕ → ℕ) (bytes : ℕ) (lines : List Line) (accounts : List Account) (counts : Counts) (plantTable segmentTable : ℕ) →
-    FromTen (lineTests starts lines 0 lines ++ (segmentTests bytes accounts ++ tableTests bytes counts plantTable segmentTable))
+    FromTen (emissionTests starts bytes (counts .plants) lines ++ (segmentTests bytes accounts ++ tableTests bytes counts plantTable segmentTable))
 unfolding FromTen
 after-reading starts bytes lines accounts counts plantTable segmentTable =
     let tables = tableTests bytes counts plantTable segmentTable in
-    both (lineTests starts lines 0 lines) (segmentTests bytes accounts ++ tables) (of-lines starts lines 0 lines)
+    both (emissionTests starts bytes (counts .plants) lines) (segmentTests bytes accounts ++ tables) (of-emissions starts bytes (counts .plants) lines)
     (both (segmentTests bytes accounts) tables (of-segments bytes accounts) (omega arith, (omega arith, tt)))
 
 -- ---- a refusal up to 9 is that of reading

@@ -1,5 +1,5 @@
 -- Every refusal has the offset that is due to its number and place (rule 8.9), and none lies past the end of the file.
-use Prim.Native.Nat.{ℕ, suc, _-_, _≤_}
+use Prim.Native.Nat.{ℕ, zero, suc, _-_, _≤_}
 use mathlib.Core.Path.{_≡_, refl, sym, ap, _∙_}
 use mathlib.Core.Bool.{Bool, true, false, cond}
 use mathlib.Core.List.{List, [], _∷_, _++_}
@@ -13,7 +13,7 @@ use Rattle.fields.specs.declared.reason.Reason.the-variants.{BytesAfter, TooMan
 use Rattle.fields.specs.Reasons.{numberOf}
 use Rattle.fields.specs.Answers.{Notice}
 use Rattle.fields.specs.Readers.{Read, read, refused}
-use Rattle.fields.specs.Tests.{Test, FirstFails, here, later}
+use Rattle.fields.specs.Tests.{Test, FirstFails, here, later, listed}
 use Rattle.fields.proofs.Offsets.{refused-stands}
 use Rattle.records.specs.declared.counts.Counts.{Counts}
 use Rattle.records.specs.declared.line.Line.{Line}
@@ -23,7 +23,7 @@ use Rattle.records.specs.Held.{recordsOf}
 use Rattle.records.specs.Within.{countsOf}
 use Rattle.records.proofs.Within.{reading-numbered}
 use Rattle.accounts.specs.Accounts.{Account}
-use Rattle.accounts.specs.Order.{refusal, lineTests, segmentTests, tableTests}
+use Rattle.accounts.specs.Order.{refusal, lineTests, fuelTest, emissionTests, segmentTests, tableTests}
 use Rattle.accounts.specs.Quantified.{accountsOf, rows, judged, afterReading, quantified}
 use Rattle.accounts.specs.Accepted.{held}
 use Rattle.accounts.specs.OffsetDue.{offsetDue}
@@ -47,12 +47,23 @@ module _ (file : List ℕ) where
   both [] rest each others = others
   both (test ∷ tests) rest each others = (each .0, both tests rest (each .1) others)
 
-  -- ---- the tests that come after reading: 10, then 11 to 13, then 14 and 15
+  -- ---- the tests that come after reading: 10 and 16, then 11 to 13, then 14 and 15
   of-lines : (lines : List Line) (done : ℕ) (left : List Line) → Due (lineTests (lineStart file (countsOf (held file))) lines done left)
   unfolding Due lineTests
   of-lines lines done [] = tt
   of-lines lines done (line ∷ left) =
       (ap (λ (index : ℕ). lineStart file (countsOf (held file)) index) (omega arith), of-lines lines (suc done) left)
+
+  of-captured : (lines : List Line) (from count : ℕ) → Due (listed (fuelTest (length file) lines) from count)
+  unfolding Due listed
+  of-captured lines from zero = tt
+  of-captured lines from (suc count) = (refl, of-captured lines (suc from) count)
+
+  of-emissions : (plants : ℕ) (lines : List Line) → Due (emissionTests (lineStart file (countsOf (held file))) (length file) plants lines)
+  unfolding emissionTests
+  of-emissions plants lines =
+      both (lineTests (lineStart file (countsOf (held file))) lines 0 lines) (listed (fuelTest (length file) lines) 0 plants)
+      (of-lines lines 0 lines) (of-captured lines 0 plants)
 
   of-segments : (accounts : List Account) → Due (segmentTests (length file) accounts)
   unfolding Due segmentTests
@@ -65,11 +76,12 @@ module _ (file : List ℕ) where
 
   after-reading :
       (lines : List Line) (accounts : List Account) (counts : Counts) (plantTable segmentTable : ℕ) →
-      Due (lineTests (lineStart file (countsOf (held file))) lines 0 lines
+      Due (emissionTests (lineStart file (countsOf (held file))) (length file) (counts .plants) lines
       ++ (segmentTests (length file) accounts ++ tableTests (length file) counts plantTable segmentTable))
   after-reading lines accounts counts plantTable segmentTable =
       let tables = tableTests (length file) counts plantTable segmentTable in
-      both (lineTests (lineStart file (countsOf (held file))) lines 0 lines) (segmentTests (length file) accounts ++ tables) (of-lines lines 0 lines)
+      both (emissionTests (lineStart file (countsOf (held file))) (length file) (counts .plants) lines) (segmentTests (length file) accounts ++ tables)
+      (of-emissions (counts .plants) lines)
       (both (segmentTests (length file) accounts) tables (of-segments accounts) (of-tables counts plantTable segmentTable))
 
   -- ---- so has every refusal of a file: of reading, or of one of these tests

@@ -1,4 +1,4 @@
--- A period file is refused exactly if one of the fifteen reasons holds at its place and offset, and none that comes before it in their order does (rule 8.8);
+-- A period file is refused exactly if one of the sixteen reasons holds at its place and offset, and none that comes before it in their order does (rule 8.8);
 -- it is accepted exactly if none holds. `specs/AllTests.antt` lists the reasons as tests, each at its place and offset, in that order. Here the
 -- answer to a file is shown to be that of the first test that fails, and the rows of the period that stands in the file if none fails.
 use Prim.Native.Nat.{ℕ}
@@ -14,7 +14,7 @@ use Rattle.fields.proofs.Asking.{Tried, all-pass, one-fails, tried}
 use Rattle.records.specs.Periods.{Period, period, periodFile}
 use Rattle.records.specs.Places.{numberCount, lineStart}
 use Rattle.records.specs.Held.{recordsOf}
-use Rattle.accounts.specs.Order.{Ruling, refusal, accepted, tested, lineTests, segmentTests, tableTests}
+use Rattle.accounts.specs.Order.{Ruling, refusal, accepted, tested, emissionTests, segmentTests, tableTests}
 use Rattle.accounts.specs.Quantified.{accountsOf, rows, judged, afterReading, quantified}
 use Rattle.accounts.specs.Accepted.{Accepted, held}
 use Rattle.accounts.specs.AllTests.{countsAt, periodAt, readingTests, allTests}
@@ -55,7 +55,7 @@ module _ (file : List ℕ) (plantTable segmentTable : ℕ) where
     where
       left : List Test
       left =
-          lineTests (lineStart file (countsAt file)) (periodAt file .lines) 0 (periodAt file .lines)
+          emissionTests (lineStart file (countsAt file)) (length file) (countsAt file .plants) (periodAt file .lines)
           ++ (segmentTests (length file) (accountsOf (periodAt file)) ++ tableTests (length file) (countsAt file) plantTable segmentTable)
 
       by-reading : PeriodTried file left → quantified file plantTable segmentTable ≡ tested tests rowsAt

@@ -16,7 +16,7 @@ use Rattle.records.specs.Periods.{Period, periodFile}
 use Rattle.records.specs.Places.{lineStart}
 use Rattle.records.specs.Within.{countsOf}
 use Rattle.records.proofs.Within.{read-within}
-use Rattle.accounts.specs.Order.{tested, lineTests, segmentTests, plantNumbers, segmentNumbers, tableTests}
+use Rattle.accounts.specs.Order.{tested, emissionTests, segmentTests, plantNumbers, segmentNumbers, tableTests}
 use Rattle.accounts.specs.Quantified.{accountsOf, rows, judged, afterReading, quantified}
 use Rattle.accounts.specs.Accepted.{Accepted}
 use Rattle.accounts.proofs.Accepting.{accepted-means, accepted-lengths}
@@ -56,7 +56,10 @@ room-enough file plantTable segmentTable = by-reading (periodFile file) refl
         let within = read-within file period place at e in
         ap
         (λ (tests : List Test).
-        tested (lineTests (lineStart file (countsOf period)) (period .lines) 0 (period .lines) ++ (segmentTests (length file) (accountsOf period) ++ tests)) (rows period (accountsOf period)))
+        tested
+        (emissionTests (lineStart file (countsOf period)) (length file) (length (period .plants)) (period .lines)
+        ++ (segmentTests (length file) (accountsOf period) ++ tests))
+        (rows period (accountsOf period)))
         (same-tests (length file) (countsOf period) plantTable segmentTable (within .counts .most-plants) (within .counts .most-segments))
 
 -- ---- an accepted file's numbers have room in its tables

@@ -1,6 +1,6 @@
 -- The same lines in another order: whatever each line weighs, they weigh the same together. So an owner's emission is the same.
 use Prim.Native.Nat.{ℕ, _+_, _<_}
-use mathlib.Core.Path.{_≡_, refl, sym, ap, _∙_}
+use mathlib.Core.Path.{_≡_, refl, sym, ap₂, _∙_}
 use mathlib.Core.Bool.{Bool, true, false, cond, _&&_, true≢false}
 use mathlib.Core.List.{List, [], _∷_, map}
 use native.Mathlib.Omega.{arith}
@@ -8,7 +8,7 @@ use lib.Dec.{eqb}
 use borrow.Author.Tests.{eqb-true, eq-eqb}
 use Rattle.fields.specs.Lists.{sum}
 use Rattle.records.specs.declared.line.Line.{Line}
-use Rattle.accounts.specs.Emissions.{inKg, grams, ownedBy, chosen, gramsOf, emission}
+use Rattle.accounts.specs.Emissions.{grams, ownedBy, chosen, gramsOf, ofClasses, isAdded, isCaptured, lessCaptured, emission}
 use Rattle.accounts.specs.Changes.{sameLine, howOften, SameLines}
 use Rattle.accounts.proofs.OwnersLines.{no-grams, grams-with, emission-of-chosen}
 
@@ -97,7 +97,9 @@ module _ (choose : Line → Bool) where
 -- and every owner emits the same
 pub emits-same : (ownerKind owner : ℕ) (one two : List Line) → SameLines one two → emission ownerKind owner two ≡ emission ownerKind owner one
 unfolding emission
-emits-same ownerKind owner one two same = ap inKg (same-grams (ownedBy ownerKind owner) one two same)
+emits-same ownerKind owner one two same =
+    ap₂ lessCaptured
+    (same-grams (ofClasses isAdded ownerKind owner) one two same) (same-grams (ofClasses isCaptured ownerKind owner) one two same)
 
 -- so does an owner all of whose lines are among the chosen, if these are the same
 pub same-emission :

@@ -12,12 +12,12 @@ use Rattle.records.specs.declared.segment.Segment.{Segment}
 use Rattle.records.specs.declared.line.Line.{Line}
 use Rattle.records.specs.Plants.{plantsAllowed, firstAllowed, fractionAllowed, plantOf}
 use Rattle.records.specs.Segments.{segmentsAllowed, kindAllowed, nextAllowed, segmentOf}
-use Rattle.records.specs.Classes.{classAllowed}
-use Rattle.records.specs.Lines.{linesAllowed, ownerKindAllowed, ownerAllowed, factorAllowed, lineOf}
+use Rattle.records.specs.Classes.{classAllowed, factorAllowed}
+use Rattle.records.specs.Lines.{linesAllowed, ownerKindAllowed, ownerAllowed, lineOf}
 use Rattle.records.specs.Headers.{edition, announced}
 use Rattle.records.specs.Periods.{Period}
 use Rattle.records.specs.Places.{plantPlace, segmentPlace, linePlace, numberCount, lineStart}
-use Rattle.accounts.specs.Order.{lineTests, segmentTests, tableTests}
+use Rattle.accounts.specs.Order.{emissionTests, segmentTests, tableTests}
 use Rattle.accounts.specs.Quantified.{accountsOf}
 
 -- The counts that the header tells (rule 2.3).
@@ -73,7 +73,7 @@ segmentFieldTests file index =
     ++ (numberTests file (1 + k)
     ++ fieldTests WrongSegment (nextAllowed (countsAt file) (suc index) (valueAt file k)) file (2 + k))
 
--- 8 for the fields of a line (rules 2.8, 3.2 and 8.3).
+-- 8 for the fields of a line (rules 2.8, 3.2, 3.3 and 8.3).
 unfoldable pub lineFieldTests : List ℕ → ℕ → List Test
 lineFieldTests file index =
     let k = linePlace (countsAt file) index in
@@ -81,7 +81,7 @@ lineFieldTests file index =
     ++ (fieldTests WrongLine (ownerAllowed (countsAt file) (valueAt file k)) file (1 + k)
     ++ (fieldTests WrongLine (classAllowed (valueAt file k)) file (2 + k)
     ++ (numberTests file (3 + k)
-    ++ fieldTests WrongLine factorAllowed file (4 + k))))
+    ++ fieldTests WrongLine (factorAllowed (valueAt file (2 + k))) file (4 + k))))
 
 -- The tests of reading: the fields of all records in their order, then the end of the file (rules 8.3 and 8.4).
 unfoldable pub readingTests : List ℕ → List Test
@@ -93,11 +93,11 @@ readingTests file =
     ++ (testsOfEach (lineFieldTests file) 0 (counts .lines)
     ++ endTest file (numberCount counts) ∷ [])))
 
--- All tests of a file: of reading (1 to 9), lines (10), segments (11 to 13) and tables (14, 15), which have these lengths (rule 8.8).
+-- All tests of a file: of reading (1 to 9), emissions (10, 16), segments (11 to 13) and tables (14, 15), which have these lengths (rule 8.8).
 unfoldable pub allTests : List ℕ → (plantTable segmentTable : ℕ) → List Test
 allTests file plantTable segmentTable =
     let period = periodAt file in
     readingTests file
-    ++ (lineTests (lineStart file (countsAt file)) (period .lines) 0 (period .lines)
+    ++ (emissionTests (lineStart file (countsAt file)) (length file) (countsAt file .plants) (period .lines)
     ++ (segmentTests (length file) (accountsOf period)
     ++ tableTests (length file) (countsAt file) plantTable segmentTable))

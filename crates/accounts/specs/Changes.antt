@@ -1,7 +1,7 @@
 -- Two periods beside each other: what may differ between them.
 use Prim.Native.Nat.{ℕ, suc, _≤_}
 use mathlib.Core.Path.{_≡_}
-use mathlib.Core.Bool.{Bool, cond, _&&_, _||_}
+use mathlib.Core.Bool.{Bool, true, cond, _&&_, _||_}
 use mathlib.Core.List.{List, [], _∷_, _++_, map}
 use lib.Dec.{eqb}
 use lib.ListN.{length, getD}
@@ -11,10 +11,10 @@ use Rattle.records.specs.Plants.{noPlant}
 use Rattle.records.specs.Classes.{plantOwner, segmentOwner}
 use Rattle.records.specs.Lines.{lineOf}
 use Rattle.records.specs.Periods.{Period}
-use Rattle.accounts.specs.Emissions.{ownedBy, chosen}
+use Rattle.accounts.specs.Emissions.{ownedBy, chosen, isAdded, isCaptured}
 use Rattle.accounts.specs.Routes.{Leg, routeOf}
 
--- Two periods that are alike, except that the second has a larger quantity in one line, or the same (rule 13.7).
+-- Two periods that are alike, except that the second has a larger quantity in one line, or the same (rules 13.7 and 13.12).
 pub record OneLineLarger (smaller larger : Period) : Type 0 where
   pub before : List Line
   pub line : Line
@@ -25,6 +25,14 @@ pub record OneLineLarger (smaller larger : Period) : Type 0 where
   pub segments : larger .segments ≡ smaller .segments
   pub lines : smaller .lines ≡ before ++ line ∷ after
   pub lines-larger : larger .lines ≡ before ++ lineOf (line .«owner_kind») (line .owner) (line .class) quantity (line .factor) ∷ after
+
+-- A line of emissions: its class is one whose grams are added, which are 1 to 8 (rule 13.7).
+abbrev pub EmissionLine : Line → Type 0
+EmissionLine line = isAdded (line .class) ≡ true
+
+-- A line of CO2 captured: its class is one whose grams are taken off, which is 9 (rule 13.12).
+abbrev pub CapturedLine : Line → Type 0
+CapturedLine line = isCaptured (line .class) ≡ true
 
 -- ---- the same lines, in whatever order they stand
 -- Whether two lines are the same: all their fields are.

@@ -17,3 +17,4 @@ pub mod RowsAndColumns
 pub mod Shares
 pub mod Routes
 pub mod Changes
+pub mod OffFuel

@@ -9,7 +9,7 @@ use Rattle.records.specs.Within.{countsOf}
 use Rattle.accounts.specs.Flow.{Standing, atFirst, Turn, turns, arrived}
 use Rattle.accounts.specs.Accounts.{Account, account}
 use Rattle.accounts.specs.Rows.{plantRows, segmentRows}
-use Rattle.accounts.specs.Order.{Ruling, refusal, accepted, tested, lineTests, segmentTests, tableTests}
+use Rattle.accounts.specs.Order.{Ruling, refusal, accepted, tested, emissionTests, segmentTests, tableTests}
 
 -- Where the plants of a period start (rule 5.2).
 abbrev pub started : Period → List Standing
@@ -34,11 +34,11 @@ rows period accounts =
     (plantRows (period .lines) accounts 0 (period .plants) (stores period))
     (segmentRows accounts)
 
--- The ruling on a period that was read from a file: the tests 10 to 15, with tables of these lengths (rules 8.5 to 8.9).
+-- The ruling on a period that was read from a file: the tests 10 to 16, with tables of these lengths (rules 8.5 to 8.10).
 unfoldable pub judged : (file : List ℕ) → Period → List Account → (plantTable segmentTable : ℕ) → Ruling
 judged file period accounts plantTable segmentTable =
     tested
-    (lineTests (lineStart file (countsOf period)) (period .lines) 0 (period .lines)
+    (emissionTests (lineStart file (countsOf period)) (length file) (length (period .plants)) (period .lines)
     ++ (segmentTests (length file) accounts
     ++ tableTests (length file) (countsOf period) plantTable segmentTable))
     (rows period accounts)

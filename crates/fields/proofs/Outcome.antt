@@ -9,7 +9,7 @@ use Rattle.fields.specs.declared.answer.Answer.{Answer}
 use Rattle.fields.specs.declared.answer.Answer.the-variants.{Accepted, Refused}
 use Rattle.fields.specs.declared.answer.Refusal.{Refusal}
 use Rattle.fields.specs.declared.reason.Reason.{Reason}
-use Rattle.fields.specs.declared.reason.Reason.the-variants.{Ends, NotShortest, TooLarge, WrongEdition, WrongCount, WrongPlant, WrongSegment, WrongLine, BytesAfter, TooManyGrams, InflowTooLarge, OutflowOverInflow, EmissionWithoutInflow, PlantTableShort, SegmentTableShort}
+use Rattle.fields.specs.declared.reason.Reason.the-variants.{Ends, NotShortest, TooLarge, WrongEdition, WrongCount, WrongPlant, WrongSegment, WrongLine, BytesAfter, TooManyGrams, InflowTooLarge, OutflowOverInflow, EmissionWithoutInflow, PlantTableShort, SegmentTableShort, CapturedOverFuel}
 use Rattle.fields.specs.declared.spot.Spot.{Spot}
 use Rattle.fields.specs.declared.taking.Taken.{Taken}
 use Rattle.fields.specs.declared.taking.Taken.the-variants as Taken
@@ -23,7 +23,8 @@ numbered : List Reason
 numbered =
     Ends
     ∷ Ends ∷ NotShortest ∷ TooLarge ∷ WrongEdition ∷ WrongCount ∷ WrongPlant ∷ WrongSegment ∷ WrongLine ∷ BytesAfter
-    ∷ TooManyGrams ∷ InflowTooLarge ∷ OutflowOverInflow ∷ EmissionWithoutInflow ∷ PlantTableShort ∷ SegmentTableShort ∷ []
+    ∷ TooManyGrams ∷ InflowTooLarge ∷ OutflowOverInflow ∷ EmissionWithoutInflow ∷ PlantTableShort ∷ SegmentTableShort
+    ∷ CapturedOverFuel ∷ []
 
 reason-back : (reason : Reason) → getD numbered (numberOf reason) Ends ≡ reason
 unfolding numbered
@@ -42,6 +43,7 @@ reason-back OutflowOverInflow = refl
 reason-back EmissionWithoutInflow = refl
 reason-back PlantTableShort = refl
 reason-back SegmentTableShort = refl
+reason-back CapturedOverFuel = refl
 
 pub numbered-once : (a b : Reason) → numberOf a ≡ numberOf b → a ≡ b
 numbered-once a b e = sym (reason-back a) ∙ ap (λ (n : ℕ). getD numbered n Ends) e ∙ reason-back b

@@ -3,7 +3,7 @@ use Prim.Native.Nat.{ℕ}
 use mathlib.Core.Path.{_≡_}
 use Rattle.number.specs.Reading.{ends, notShortest, tooLarge}
 use Rattle.fields.specs.declared.reason.Reason.{Reason}
-use Rattle.fields.specs.declared.reason.Reason.the-variants.{Ends, NotShortest, TooLarge, WrongEdition, WrongCount, WrongPlant, WrongSegment, WrongLine, BytesAfter, TooManyGrams, InflowTooLarge, OutflowOverInflow, EmissionWithoutInflow, PlantTableShort, SegmentTableShort}
+use Rattle.fields.specs.declared.reason.Reason.the-variants.{Ends, NotShortest, TooLarge, WrongEdition, WrongCount, WrongPlant, WrongSegment, WrongLine, BytesAfter, TooManyGrams, InflowTooLarge, OutflowOverInflow, EmissionWithoutInflow, PlantTableShort, SegmentTableShort, CapturedOverFuel}
 
 -- The number of each reason, by the table of chapter 8 (rule 8.1). The first three are those of number reading.
 abbrev pub numberOf : Reason → ℕ
@@ -22,6 +22,7 @@ numberOf OutflowOverInflow = 12
 numberOf EmissionWithoutInflow = 13
 numberOf PlantTableShort = 14
 numberOf SegmentTableShort = 15
+numberOf CapturedOverFuel = 16
 
 -- What `Reason::number` promises: that number (rule 8.1).
 abbrev pub ReasonNumberPromise : Reason → ℕ → Type 0

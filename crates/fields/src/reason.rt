@@ -33,6 +33,8 @@ pub enum Reason {
     PlantTableShort,
     // The table for the segments' rows is too short.
     SegmentTableShort,
+    // A plant's fossil CO2 captured is more than its fuel gives. The place is the plant.
+    CapturedOverFuel,
 }
 
 impl Reason {
@@ -56,6 +58,7 @@ impl Reason {
             Reason::EmissionWithoutInflow => 13,
             Reason::PlantTableShort => 14,
             Reason::SegmentTableShort => 15,
+            Reason::CapturedOverFuel => 16,
         }
     }
 }

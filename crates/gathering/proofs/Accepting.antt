@@ -1,5 +1,5 @@
 -- A file that is accepted: its period is within the limits of reading, and no owner emits more than the largest number.
-use Prim.Native.Nat.{ℕ, _≤_}
+use Prim.Native.Nat.{ℕ, _-_, _≤_}
 use mathlib.Core.Path.{_≡_, refl, sym, ap, _∙_}
 use mathlib.Core.Bool.{Bool, true, false, cond}
 use mathlib.Core.List.{List, [], _∷_}
@@ -9,13 +9,14 @@ use Rattle.fields.specs.Answers.{Verdict, accepts, refuses}
 use Rattle.fields.specs.Readers.{Read, read, refused}
 use Rattle.fields.specs.Tests.{Test, refusalBy, testedBy, NoneFails}
 use Rattle.fields.proofs.Answers.{refuses-not-accepts}
-use Rattle.fields.proofs.Testing.{none-answers, none-fails}
-use Rattle.records.specs.Lines.{mostGrams}
+use Rattle.fields.proofs.Testing.{none-answers, none-fails, none-of-both}
+use Rattle.records.specs.Classes.{gramsInKg}
 use Rattle.records.specs.Periods.{Period, periodFile}
 use Rattle.records.specs.Places.{lineStart}
 use Rattle.records.specs.Within.{Within, countsOf}
 use Rattle.records.proofs.Within.{read-within}
-use Rattle.accounts.specs.Emissions.{ownedBy, gramsOf, gramsInKg, emission}
+use Rattle.accounts.specs.Emissions.{ofClasses, isAdded, addedGrams, capturedGrams, emission}
+use Rattle.accounts.specs.Order.{lineTests, emissionTests}
 use Rattle.accounts.proofs.Accepting.{grams-each}
 use Rattle.accounts.proofs.Credits.{up-most}
 use Rattle.accounts.proofs.OwnersLines.{no-grams}
@@ -46,12 +47,13 @@ pub record Bounded (gathered : Contents) : Type 0 where
 -- if no test fails, no owner's total passes the limit, and so it is no more kg than a number may be
 emission-most :
     (file : List ℕ) (period : Period) → NoneFails (gatheringTests file period) → (ownerKind owner : ℕ) → emission ownerKind owner (period .lines) ≤ largest
-unfolding emission
+unfolding emission emissionTests
 emission-most file period none ownerKind owner =
-    let its = ownedBy ownerKind owner in
+    let its = ofClasses isAdded ownerKind owner in
+    let (of-lines, of-captured) = none-of-both (lineTests (lineStart file (countsOf period)) (period .lines) 0 (period .lines)) _ none in
     let few =
-    grams-each (lineStart file (countsOf period)) ownerKind owner (period .lines) 0 (period .lines) refl none (omega (arith, no-grams its)) in
-    up-most gramsInKg (gramsOf its (period .lines)) largest (omega (arith, few))
+    grams-each (lineStart file (countsOf period)) ownerKind owner (period .lines) 0 (period .lines) refl of-lines (omega (arith, no-grams its)) in
+    up-most gramsInKg (addedGrams ownerKind owner (period .lines) - capturedGrams ownerKind owner (period .lines)) largest (omega (arith, few))
 
 -- a file that is accepted is read, and none of its tests fails
 pub accepted-bounded : (file : List ℕ) → gathering file .verdict ≡ accepts → Bounded (gathering file)

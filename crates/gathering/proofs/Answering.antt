@@ -6,6 +6,7 @@ use native.Mathlib.Decide.{decLe}
 use native.Mathlib.Omega.{arith}
 use lib.ListN.{length}
 use borrow.Author.Tests.{lt-ltb, le-ltb}
+use Rattle.fields.specs.declared.answer.Answer.{Answer}
 use Rattle.fields.specs.declared.answer.Answer.the-variants.{Accepted, Refused}
 use Rattle.fields.specs.declared.answer.Refusal.{Refusal}
 use Rattle.fields.specs.declared.spot.Spot.{Spot}
@@ -29,8 +30,8 @@ use Rattle.records.proofs.Starts.{first-line-starts}
 use Rattle.records.proofs.RecordsWithin.{plants-within, segments-within, lines-within}
 use Rattle.reading.specs.declared.whole.ReadRecords.{ReadRecords}
 use Rattle.reading.specs.declared.whole.ReadRecords.the-variants as ReadRecords
-use Rattle.accounts.specs.Order.{lineTests}
-use Rattle.gathering.specs.declared.emissions.Added.{Added}
+use Rattle.accounts.specs.Order.{emissionTests}
+use Rattle.gathering.specs.declared.gathering.Gathered.{Gathered}
 use Rattle.gathering.specs.declared.network.Plants.{Plants}
 use Rattle.gathering.specs.declared.network.Segments.{Segments}
 use Rattle.gathering.specs.Gathered.{gatheringTests, Contents, nothingGathered, gatheredOf, gatheredAfter, gathering, OwnerEmissions, Gathers, GatherPromise}
@@ -46,7 +47,7 @@ kept-refused why e = rw e (record {
   counts = refl;
   plants = record { exported = refl; first = refl; fraction = refl };
   segments = record { kind = refl; outflow = refl; next = refl };
-  emissions = record { plants = refl; segments = refl };
+  emissions = record { plants-are = refl; segments-are = refl };
   bytes = refl;
 })
 
@@ -120,7 +121,7 @@ module _ (file : List ℕ) where
               lines-within file third counts lines last came .0,
             ) refl
 
-        -- the end of the file is next, and then 10
+        -- the end of the file is next, then 10, then 16
         line-read : gathering file ≡ decided (linesRuling file counts (whole lines last)) (gatheredOf file (period lines))
         unfolding gathering
         line-read =
@@ -133,15 +134,15 @@ module _ (file : List ℕ) where
             by-end (yes h) =
                 rw (none-left (period lines) (last .place) file (last .byte) h, le-ltb (last .byte) (length file) h)
                 (tests-decide (gatheringTests file (period lines)) (gatheredOf file (period lines))
-                ∙ ap (λ (c : Counts). decided (testedBy refuses (lineTests (lineStart file c) lines 0 lines) accepts) (gatheredOf file (period lines))) (sym announced-all))
+                ∙ ap (λ (c : Counts). decided (testedBy refuses (emissionTests (lineStart file c) (length file) (c .plants) lines) accepts) (gatheredOf file (period lines))) (sym announced-all))
             by-end (no h) =
                 let more : last .byte < length file = omega (arith, h) in
                 rw (more-left (period lines) (last .place) file (last .byte) more, lt-ltb (last .byte) (length file) more) refl
 
-      module _ (added : Added) (all : AddedUp file third counts added) where
+      module _ (answer : Answer) (plantKg segmentKg : List ℕ) (added : AddedUp file third counts answer plantKg segmentKg) where
         -- the lines are refused
-        pub lines-out : (why : Refusal) → added .answer ≡ Refused why → GatherPromise file (noRecords why)
-        lines-out why is = kept-refused why (by-outcome outcome refl (sym (ap said is) ∙ all .verdict))
+        pub lines-out : (why : Refusal) → answer ≡ Refused why → GatherPromise file (noRecords why)
+        lines-out why is = kept-refused why (by-outcome outcome refl (sym (ap said is) ∙ added .verdict))
           where
             by-outcome :
                 (came : Reach (List Line)) → outcome ≡ came → refusing why ≡ linesRuling file counts came →
@@ -150,12 +151,19 @@ module _ (file : List ℕ) where
             by-outcome (whole lines last) e told = line-read lines last e ∙ sym (ap (λ (v : Verdict). decided v (gatheredOf file (period lines))) told)
 
         -- they are added up
-        pub all-gathered : added .answer ≡ Accepted → GatherPromise file (record { answer = added .answer; counts = counts; plants = plants; segments = segments; emissions = added .emissions })
-        all-gathered is = by-outcome outcome refl (sym (ap said is) ∙ all .verdict)
+        abbrev gathered : Gathered
+        gathered = record {
+          answer = answer;
+          counts = counts;
+          plants = plants;
+          segments = segments;
+          emissions = record { bytes = length file; plants = plantKg; segments = segmentKg };
+        }
+
+        pub all-gathered : answer ≡ Accepted → GatherPromise file gathered
+        all-gathered is = by-outcome outcome refl (sym (ap said is) ∙ added .verdict)
           where
-            by-outcome :
-                (came : Reach (List Line)) → outcome ≡ came → accepts ≡ linesRuling file counts came →
-                GatherPromise file (record { answer = added .answer; counts = counts; plants = plants; segments = segments; emissions = added .emissions })
+            by-outcome : (came : Reach (List Line)) → outcome ≡ came → accepts ≡ linesRuling file counts came → GatherPromise file gathered
             by-outcome (stopped notice) e same = absurd (refuses-not-accepts (sym same))
             by-outcome (whole lines last) e same =
                 rw (line-read lines last e ∙ sym (ap (λ (v : Verdict). decided v (gatheredOf file (period lines))) same)) (record {
@@ -163,6 +171,6 @@ module _ (file : List ℕ) where
                   counts = announced-all lines last e;
                   plants = before .plants-read .kept;
                   segments = past .segments-read .kept;
-                  emissions = subst (λ (c : Counts). OwnerEmissions (added .emissions) c lines) (announced-all lines last e) (all .emitted is lines last e);
-                  bytes = all .all-bytes is;
+                  emissions = subst (λ (c : Counts). OwnerEmissions plantKg segmentKg c lines) (announced-all lines last e) (added .emitted is lines last e);
+                  bytes = refl;
                 })

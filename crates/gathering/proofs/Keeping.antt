@@ -1,21 +1,17 @@
 -- Records read one after another and kept column by column: one law for each way through a turn of that loop, over any kind of record.
 use Prim.Native.Nat.{ℕ, suc, _+_, _-_, _≤_, _<_}
-use mathlib.Core.Path.{_≡_, refl, sym, ap, _∙_}
-use mathlib.Core.List.{List, [], _∷_, _++_, map, map-append}
-use native.Mathlib.Numerals.{add-one}
+use mathlib.Core.Path.{_≡_}
+use mathlib.Core.List.{List, [], _∷_, _++_}
 use native.Mathlib.Omega.{arith}
-use lib.ListN.{length, length-map, length-take, take, getD, set, replicate, List·getD-map}
-use lib.Seq.{take-suc, length-take-le}
+use lib.ListN.{set, replicate}
 use Rattle.fields.specs.declared.spot.Spot.{Spot}
-use Rattle.fields.specs.Lists.{filled}
 use Rattle.fields.specs.Reaching.{whole, readsFrom}
-use Rattle.fields.specs.Tests.{listed}
 use Rattle.fields.proofs.Stages.{Passed, none-passed, one-passed, none-left}
 use Rattle.records.specs.declared.counts.Counts.{Counts}
 use Rattle.records.specs.declared.plant.Plant.{Plant}
 use Rattle.records.specs.declared.segment.Segment.{Segment}
-use Rattle.records.specs.Plants.{mostPlants, noPlant}
-use Rattle.records.specs.Segments.{mostSegments, noSegment}
+use Rattle.records.specs.Plants.{mostPlants}
+use Rattle.records.specs.Segments.{mostSegments}
 use Rattle.records.specs.Periods.{plant, segment}
 use Rattle.reading.specs.declared.whole.ReadRecords.the-variants.{Whole as WholeRecords}
 use Rattle.gathering.specs.declared.network.Plants.{Plants}

@@ -1,9 +1,12 @@
 -- What is listed index by index; records kept column by column.
 pub mod Listing
 mod Keeping
--- The owners' totals.
-mod Totals
+-- The owners' totals, and the loop that adds up the lines.
+mod OwnerTotals
+mod CapturedTests
 mod LinesAdded
+mod LinesEnded
+mod OwnersEmit
 -- The file, part by part.
 mod Answering
 -- What a file is that is accepted; no two outcomes meet the promise of the call.

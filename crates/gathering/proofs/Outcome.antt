@@ -33,11 +33,11 @@ abbrev emitting : ℕ → (plants segments : List ℕ) → Emissions
 emitting bytes plants segments = record { bytes = bytes; plants = plants; segments = segments }
 
 one-emissions :
-    (r s : Emissions) (counts : Counts) (lines : List Line) → OwnerEmissions r counts lines → OwnerEmissions s counts lines → r .bytes ≡ s .bytes → r ≡ s
+    (r s : Emissions) (counts : Counts) (lines : List Line) → OwnerEmissions (r .plants) (r .segments) counts lines → OwnerEmissions (s .plants) (s .segments) counts lines → r .bytes ≡ s .bytes → r ≡ s
 one-emissions r s counts lines p q e =
     ap (λ (x : ℕ). emitting x (r .plants) (r .segments)) e
-    ∙ ap (λ (x : List ℕ). emitting (s .bytes) x (r .segments)) (p .plants ∙ sym (q .plants))
-    ∙ ap (emitting (s .bytes) (s .plants)) (p .segments ∙ sym (q .segments))
+    ∙ ap (λ (x : List ℕ). emitting (s .bytes) x (r .segments)) (p .plants-are ∙ sym (q .plants-are))
+    ∙ ap (emitting (s .bytes) (s .plants)) (p .segments-are ∙ sym (q .segments-are))
 
 -- what the code answers, by its fields
 abbrev made : Answer → Counts → Plants → Segments → Emissions → Gathered

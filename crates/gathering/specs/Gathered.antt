@@ -1,4 +1,4 @@
--- What a file gives before any segment has its turn: whether it is refused (1 to 10), its records, and what every plant and segment emits.
+-- What a file gives before any segment has its turn: whether it is refused (1 to 10, 16), its records, and what every plant and segment emits.
 use Prim.Native.Nat.{ℕ, suc}
 use mathlib.Core.Path.{_≡_}
 use mathlib.Core.List.{List, [], map}
@@ -18,15 +18,15 @@ use Rattle.records.specs.Periods.{Period, periodOf, periodFile}
 use Rattle.records.specs.Places.{lineStart}
 use Rattle.records.specs.Within.{countsOf}
 use Rattle.accounts.specs.Emissions.{emission}
-use Rattle.accounts.specs.Order.{lineTests}
-use Rattle.gathering.specs.declared.emissions.Emissions.{Emissions}
+use Rattle.accounts.specs.Order.{emissionTests}
 use Rattle.gathering.specs.declared.gathering.Gathered.{Gathered}
 use Rattle.gathering.specs.declared.network.Plants.{Plants}
 use Rattle.gathering.specs.declared.network.Segments.{Segments}
 
--- The tests of a period that was read from a file, before any segment has its turn: 10 over its lines (rules 8.5 and 8.9).
+-- The tests of a period that was read from a file, before any segment has its turn: 10 over its lines, then 16 over its plants (rules 8.5, 8.9
+-- and 8.10).
 abbrev pub gatheringTests : (file : List ℕ) → Period → List Test
-gatheringTests file period = lineTests (lineStart file (countsOf period)) (period .lines) 0 (period .lines)
+gatheringTests file period = emissionTests (lineStart file (countsOf period)) (length file) (length (period .plants)) (period .lines)
 
 -- ---- the contents of a file: the verdict and, if it is accepted, its records and how many bytes it has
 pub record Contents : Type 0 where
@@ -72,9 +72,9 @@ abbrev pub ownerColumn : (ownerKind count : ℕ) → List Line → List ℕ
 ownerColumn ownerKind count lines = filled 0 mostSegments (listed (λ (index : ℕ). emission ownerKind (suc index) lines) 0 count)
 
 -- Those of so many plants and segments.
-pub record OwnerEmissions (r : Emissions) (counts : Counts) (lines : List Line) : Type 0 where
-  pub plants : r .plants ≡ ownerColumn plantOwner (counts .plants) lines
-  pub segments : r .segments ≡ ownerColumn segmentOwner (counts .segments) lines
+pub record OwnerEmissions (plants segments : List ℕ) (counts : Counts) (lines : List Line) : Type 0 where
+  pub plants-are : plants ≡ ownerColumn plantOwner (counts .plants) lines
+  pub segments-are : segments ≡ ownerColumn segmentOwner (counts .segments) lines
 
 -- What the code's answer says of the contents: the verdict, how many records there are, their columns, what they emit, and how many bytes were read.
 pub record Gathers (r : Gathered) (contents : Contents) : Type 0 where
@@ -82,7 +82,7 @@ pub record Gathers (r : Gathered) (contents : Contents) : Type 0 where
   pub counts : r .counts ≡ countsOf (contents .period)
   pub plants : PlantRecords (r .plants) (contents .period .plants)
   pub segments : SegmentRecords (r .segments) (contents .period .segments)
-  pub emissions : OwnerEmissions (r .emissions) (countsOf (contents .period)) (contents .period .lines)
+  pub emissions : OwnerEmissions (r .emissions .plants) (r .emissions .segments) (countsOf (contents .period)) (contents .period .lines)
   pub bytes : r .emissions .bytes ≡ contents .bytes
 
 -- The promise of `gather`: its answer is what is gathered of the file (rules 2.1 to 4.3, 8.1 to 8.5 and 8.9).

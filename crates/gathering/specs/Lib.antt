@@ -2,4 +2,5 @@
 pub mod Gathered
 -- What private functions promise: columns of records, the owners' totals, and the rest.
 pub mod Kept
+pub mod OwnerTotals
 pub mod Inside

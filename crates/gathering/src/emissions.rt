@@ -1,16 +1,19 @@
-// What an owner emits: the grams of its lines, added up as they are read, then rounded up to a kg once (rules 4.1 to 4.3 and 8.5).
+// What the owners emit: the grams of their lines, added up as they are read, then tested and rounded up to a kg once (rules 4.1 to 4.4, 8.5 and 8.10).
 ghost use mathlib.Core.Path.{_≡_};
 ghost use Prim.Native.Nat.{_+_, _≤_};
+ghost use lib.ListN.{replicate};
 ghost use Rattle.records.specs.Plants.{mostPlants};
 ghost use Rattle.records.specs.Places.{lineStart};
 ghost use Rattle.records.specs.Segments.{mostSegments};
 ghost use Rattle.records.specs.Within.{CountsWithin, LineWithin, mostCounts};
-ghost use Rattle.records.specs.Lines.{mostGrams};
-ghost use Rattle.accounts.specs.Emissions.{inKg};
-ghost use Rattle.gathering.specs.Inside.{AddedUp, FewGrams, firstOver, kgColumn, noEmissions, noneAdded, noTotals, overGrams, ownerPlace, withLine};
+ghost use Rattle.fields.specs.Answers.{accepts, refuses, said};
+ghost use Rattle.fields.specs.Tests.{listed, testedBy};
+ghost use Rattle.gathering.specs.OwnerTotals.{columnsOf, firstOver, fuelTestBy, kgColumn, NoTotals, ownerPlace, SmallColumn};
+ghost use Rattle.gathering.specs.Inside.{AddedUp, LinesAdded};
+use crate::totals::Totals;
+use crate::totals::less_captured;
 use fields::Answer;
 use fields::Reason;
-use fields::Refusal;
 use fields::Spot;
 use fields::nothing_after;
 use reading::ReadLine;
@@ -19,45 +22,6 @@ use records::Counts;
 use records::Line;
 use records::Plant;
 use records::Segment;
-
-// The totals of an owner's lines so far.
-pub(crate) struct Totals {
-    // Its grams; past the limit they are no longer counted (rule 9.3).
-    pub(crate) grams: u64,
-}
-
-impl Totals {
-    // The totals of no line.
-    fn none() -> Totals
-        ensures { λ r. ⌜ r ≡ noTotals ⌝ }
-    {
-        Totals { grams: 0 }
-    }
-
-    // The totals with one line more (rules 4.1 and 4.2).
-    fn with(self, line: Line) -> Totals
-        requires { ⌜ self .grams ≤ overGrams ⌝ }
-        requires { ⌜ LineWithin mostCounts 1 line ⌝ }
-        ensures { λ r. ⌜ r ≡ withLine self line ⌝ }
-    {
-        let grams = self.grams + line.quantity as u64 * line.factor as u64;
-        if Line::MOST_GRAMS < grams {
-            Totals {
-                grams: Line::MOST_GRAMS + 1,
-            }
-        } else {
-            Totals { grams }
-        }
-    }
-
-    // What they come to in kg, rounded up (rule 4.3).
-    fn kg(self) -> u64
-        requires { ⌜ self .grams ≤ mostGrams ⌝ }
-        ensures { λ r. ⌜ r ≡ inKg (self .grams) ⌝ }
-    {
-        (self.grams + (Emissions::GRAMS_IN_KG - 1)) / Emissions::GRAMS_IN_KG
-    }
-}
 
 // What the owners emit, all zeros in a file that is refused (rule 4.3).
 pub struct Emissions {
@@ -69,49 +33,85 @@ pub struct Emissions {
 }
 
 impl Emissions {
-    pub(crate) const GRAMS_IN_KG: u64 = 1000;
     // The most owners of one kind.
     pub const OWNERS: usize = Segment::MOST;
     // The places for totals: those of the plants, and behind them those of the segments.
     pub(crate) const PLACES: usize = Plant::MOST + Segment::MOST;
-
-    // Those of a file that is refused.
-    pub(crate) fn none() -> Emissions
-        ensures { λ r. ⌜ r ≡ noEmissions ⌝ }
-    {
-        Emissions {
-            bytes: 0,
-            plants: [0; Emissions::OWNERS],
-            segments: [0; Emissions::OWNERS],
-        }
-    }
 }
 
-// The lines added up: accepted if they are read to the end of the file and no total passes the limit (rule 8.5).
-pub(crate) struct Added {
-    pub(crate) answer: Answer,
-    pub(crate) emissions: Emissions,
-}
-
-// Adds up the lines from a spot on. The first line that passes the limit is the answer only if the file is read to its end (rules 4.2 and 8.5).
-pub(crate) fn add_up(file: &[u8], start: Spot, counts: Counts) -> Added
+// Adds up the lines from a spot on, and puts what each plant and segment emits, in kg, into two columns of zeros: accepted if the lines are read to
+// the end of the file, no total passes the limit and no plant has more captured than its fuel gives (rules 4.2 to 4.4, 8.5 and 8.10).
+pub(crate) fn add_up(
+    file: &[u8],
+    start: Spot,
+    counts: Counts,
+    plants: &mut [u64; Emissions::OWNERS],
+    segments: &mut [u64; Emissions::OWNERS],
+) -> Answer
     requires { ⌜ CountsWithin counts ⌝ }
     requires { ⌜ start .byte ≡ lineStart (now file) counts 0 ⌝ }
-    ensures { λ r. ⌜ AddedUp (now (file .entry)) start counts r ⌝ }
+    requires { ⌜ (now plants ≡ replicate mostSegments 0) × (now segments ≡ replicate mostSegments 0) ⌝ }
+    ensures { λ r. ⌜ AddedUp (now (file .entry)) start counts r (now (plants .exit)) (now (segments .exit)) ⌝ }
 {
-    let mut totals = [Totals::none(); Emissions::PLACES];
+    let mut added = [0u64; Emissions::PLACES];
+    let mut fuel = [0u64; Emissions::PLACES];
+    let mut captured = [0u64; Emissions::PLACES];
+    let lines = add_lines(file, start, counts, &mut added, &mut fuel, &mut captured);
+    if let Answer::Refused(_refusal) = lines {
+        return lines;
+    }
+    let plant_count = counts.plants as usize;
+    let answer = test_captured(&fuel, &captured, plant_count, file.len() as u64);
+    if let Answer::Refused(_refusal) = answer {
+        return answer;
+    }
+    in_kg(&added, &captured, 0, plant_count, plants);
+    in_kg(
+        &added,
+        &captured,
+        Plant::MOST,
+        counts.segments as usize,
+        segments,
+    );
+    answer
+}
+
+// Reads the lines from a spot on, and adds each to its owner's totals, which stand in three columns. The first line that passes the limit is the
+// answer only if the file is read to its end (rules 4.2, 8.4 and 8.5).
+fn add_lines(
+    file: &[u8],
+    start: Spot,
+    counts: Counts,
+    added: &mut [u64; Emissions::PLACES],
+    fuel: &mut [u64; Emissions::PLACES],
+    captured: &mut [u64; Emissions::PLACES],
+) -> Answer
+    requires { ⌜ CountsWithin counts ⌝ }
+    requires { ⌜ start .byte ≡ lineStart (now file) counts 0 ⌝ }
+    requires { ⌜ NoTotals (now added) (now fuel) (now captured) ⌝ }
+    ensures { λ r. ⌜ LinesAdded (now (file .entry)) start counts r (columnsOf (now (added .exit)) (now (fuel .exit)) (now (captured .exit))) ⌝ }
+{
     // No line has the place 0.
     let mut over = Spot { byte: 0, place: 0 };
     let mut at = start;
     let mut l = 0;
     while l < counts.lines {
         match read_line(file, at, counts) {
-            ReadLine::Refused(refusal) => return refused(refusal),
+            ReadLine::Refused(refusal) => return Answer::Refused(refusal),
             ReadLine::Whole(line, next) => {
                 let owner = place_of(line);
-                let so_far = totals[owner];
+                let sum = added[owner];
+                let burnt = fuel[owner];
+                let taken = captured[owner];
+                let so_far = Totals {
+                    added: sum,
+                    fuel: burnt,
+                    captured: taken,
+                };
                 let total = so_far.with(line);
-                totals[owner] = total;
+                added[owner] = total.added;
+                fuel[owner] = total.fuel;
+                captured[owner] = total.captured;
                 let own = l + 1;
                 let here = Spot {
                     byte: at.byte,
@@ -124,20 +124,13 @@ pub(crate) fn add_up(file: &[u8], start: Spot, counts: Counts) -> Added
         l += 1;
     }
     let answer = nothing_after(file, at);
-    if let Answer::Refused(refusal) = answer {
-        return refused(refusal);
+    if let Answer::Refused(_refusal) = answer {
+        return answer;
     }
     if over.place != 0 {
-        return refused(over.refusal(Reason::TooManyGrams));
+        return Answer::Refused(over.refusal(Reason::TooManyGrams));
     }
-    Added {
-        answer,
-        emissions: Emissions {
-            bytes: file.len() as u64,
-            plants: in_kg(totals, 0, counts.plants as usize),
-            segments: in_kg(totals, Plant::MOST, counts.segments as usize),
-        },
-    }
+    answer
 }
 
 // Where the total of a line's owner stands.
@@ -153,39 +146,49 @@ fn place_of(line: Line) -> usize
 fn first_over(over: Spot, total: Totals, line: Spot) -> Spot
     ensures { λ r. ⌜ r ≡ firstOver over total line ⌝ }
 {
-    if total.grams <= Line::MOST_GRAMS {
+    if total.added <= Line::MOST_GRAMS {
         return over;
     }
     if over.place == 0 { line } else { over }
 }
 
-// The answer for lines that are refused.
-fn refused(refusal: Refusal) -> Added
-    ensures { λ r. ⌜ r ≡ noneAdded refusal ⌝ }
+// 16, plant by plant: whether more is captured than its fuel gives (rule 8.10).
+fn test_captured(
+    fuel: &[u64; Emissions::PLACES],
+    captured: &[u64; Emissions::PLACES],
+    count: usize,
+    bytes: u64,
+) -> Answer
+    requires { ⌜ count ≤ mostPlants ⌝ }
+    ensures { λ r. ⌜ said r ≡ testedBy refuses (listed (fuelTestBy bytes (now (fuel .entry)) (now (captured .entry))) 0 count) accepts ⌝ }
 {
-    Added {
-        answer: Answer::Refused(refusal),
-        emissions: Emissions::none(),
+    let mut p = 0;
+    while p < count {
+        if fuel[p] < captured[p] {
+            return Answer::refused(Reason::CapturedOverFuel, p as u64 + 1, bytes);
+        }
+        p += 1;
     }
+    Answer::Accepted
 }
 
-// The totals of `count` owners in kg, from the one at the place `first` on; zeros behind them (rule 4.3).
+// Puts the totals of `count` owners in kg into a column of zeros, from the one at the place `first` on (rules 4.3 and 4.4).
 fn in_kg(
-    totals: [Totals; Emissions::PLACES],
+    added: &[u64; Emissions::PLACES],
+    captured: &[u64; Emissions::PLACES],
     first: usize,
     count: usize,
-) -> [u64; Emissions::OWNERS]
-    requires { ⌜ FewGrams totals ⌝ }
+    kg: &mut [u64; Emissions::OWNERS],
+)
+    requires { ⌜ SmallColumn (now added) ⌝ }
     requires { ⌜ first + count ≤ mostPlants + mostSegments ⌝ }
     requires { ⌜ count ≤ mostSegments ⌝ }
-    ensures { λ r. ⌜ r ≡ kgColumn totals first count ⌝ }
+    requires { ⌜ now kg ≡ replicate mostSegments 0 ⌝ }
+    ensures { λ _. ⌜ now (kg .exit) ≡ kgColumn (now (added .entry)) (now (captured .entry)) first count ⌝ }
 {
-    let mut kg = [0u64; Emissions::OWNERS];
     let mut o = 0;
     while o < count {
-        let total = totals[first + o];
-        kg[o] = total.kg();
+        kg[o] = less_captured(added[first + o], captured[first + o]);
         o += 1;
     }
-    kg
 }

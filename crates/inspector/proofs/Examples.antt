@@ -8,7 +8,7 @@ use Rattle.number.specs.Counting.{startOf, numberAt}
 use Rattle.number.specs.Writing.{writing, written}
 use Rattle.fields.specs.Readers.{each, reads, consumes}
 use Rattle.records.specs.declared.header.Header.the-variants.{Tells, TellsNothing}
-use Rattle.records.specs.Classes.{classes, classAllowed}
+use Rattle.records.specs.Classes.{classes, classOf}
 use Rattle.records.specs.Headers.{announced, header, headerOf}
 use Rattle.records.specs.Periods.{plant, segment, line, records, period}
 use Rattle.records.specs.Numbers.{consumed}
@@ -35,6 +35,6 @@ pub examples :
     × (fieldAt TellsNothing 4 ≡ Field.Untold)
     -- a number that has a fault is not
     × (consumed (0x01 ∷ 0x80 ∷ 0x00 ∷ []) ≡ 1 ∷ [])
-unfolding flatMap gather value padded reading formed readAt startOf writing written classes classAllowed each reads header plant segment
+unfolding flatMap gather value padded reading formed readAt startOf writing written classes classOf each reads header plant segment
     line records period headerOf consumes consumed fieldAt
 examples = (refl, refl, refl, refl, refl, refl, refl, refl, refl, refl, refl, refl, refl)

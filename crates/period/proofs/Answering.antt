@@ -14,15 +14,14 @@ use Rattle.fields.proofs.Answers.{refuses-not-accepts}
 use Rattle.fields.proofs.Testing.{none-answers, listed-length}
 use Rattle.records.specs.Headers.{announced}
 use Rattle.records.specs.Periods.{Period, periodFile}
-use Rattle.records.specs.Places.{lineStart}
-use Rattle.records.specs.Within.{countsOf}
-use Rattle.accounts.specs.Order.{Ruling, refusal, accepted, tested, lineTests, segmentTests, plantNumbers, segmentNumbers, tableTests}
+use Rattle.accounts.specs.Order.{Ruling, refusal, accepted, tested, segmentTests, plantNumbers, segmentNumbers, tableTests}
 use Rattle.accounts.specs.Quantified.{accountsOf, rows, judged, afterReading, quantified}
 use Rattle.accounts.proofs.Testing.{none-fails}
 use Rattle.accounts.proofs.Accepting.{accounts-length, table-room}
 use Rattle.settling.specs.declared.account.PlantAccounts.{PlantAccounts}
 use Rattle.settling.specs.declared.account.SegmentAccounts.{SegmentAccounts}
 use Rattle.settling.specs.declared.settling.Settled.{Settled}
+use Rattle.gathering.specs.Gathered.{gatheringTests}
 use Rattle.settling.specs.Settled.{segmentAccount, plantAccountAt, plantAccounts, segmentAccounts, Settlement, nothingSettled, settledOf, settledBy, settledPeriod, settledAfter, settlement, SettlePromise}
 use Rattle.period.specs.Written.{plantRowAt, segmentRowAt, firstRows, withTables, Lent, lent, rulingOn, rulingVerdict, lentAfter, HandsBack, QuantifyPromise}
 use Rattle.period.specs.Inside.{nothingWritten}
@@ -70,7 +69,7 @@ module _ (plantTable segmentTable bytes : ℕ) where
   judged-is file long period =
       let counted : length (plantAccounts period) ≡ length (period .plants) = listed-length (plantAccountAt period) 0 (length (period .plants)) in
       let counted' : length (segmentAccounts period) ≡ length (period .segments) = length-map (accountsOf period) segmentAccount ∙ accounts-length period in
-      let tests = lineTests (lineStart file (countsOf period)) (period .lines) 0 (period .lines) in
+      let tests = gatheringTests file period in
       let of-segments = segmentTests (length file) (accountsOf period) in
       ap (λ (all : List Test). tested all (rows period (accountsOf period))) (sym (append-assoc tests of-segments _))
       ∙ tested-before (tests ++ of-segments) (settledOf period) _ _

@@ -22,14 +22,14 @@ use Rattle.accounts.specs.Accepted.{Accepted, held}
 use Rattle.accounts.specs.RowsAndColumns.{rowAt, inRow, columnSum, exportedColumn, storedColumn, associatedColumn, unitsColumn, inflowColumn, outflowColumn, lossColumn, emissionColumn, setColumn}
 use Rattle.accounts.specs.Shares.{turnAt, entering, leaving, charged, ownEmissions, creditOf, Credited, SentOn, AddUp}
 use Rattle.accounts.specs.Routes.{Alone, AloneInRows}
-use Rattle.accounts.specs.Changes.{OneLineLarger, OthersOwn, SameFor}
+use Rattle.accounts.specs.Changes.{OneLineLarger, EmissionLine, CapturedLine, OthersOwn, SameFor}
 use Rattle.accounts.proofs.Accepting.{accepted-means}
 use Rattle.accounts.proofs.RowsAt.{row-front, plant-row-at, plants-long, segments-long, column-same}
 use Rattle.accounts.proofs.ProportionalPart.{sent-on, proportional-part, stored-at-store}
 use Rattle.accounts.proofs.CreditsAddUp.{credits-add-up, inflow-told, outflow-told}
 use Rattle.accounts.proofs.Balance.{balance}
 use Rattle.accounts.proofs.AloneOnItsRoute.{alone-on-its-route, sets-tell}
-use Rattle.accounts.proofs.LargerLine.{larger-line}
+use Rattle.accounts.proofs.LargerLine.{larger-line, larger-captured}
 use Rattle.accounts.proofs.OthersFractionAndLines.{others-fraction-and-lines, no-segment-changes}
 use Rattle.accounts.proofs.ChargesAddUp.{charges-add-up}
 use Rattle.accounts.proofs.ChargesCounted.{charges-of-plant, charges-counted}
@@ -192,11 +192,19 @@ module _
 
     -- Larger line (rule 13.7): the period with the larger line gives no plant more units
     pub larger-line-left :
-        OneLineLarger (held file₁) (held file₂) → (index : ℕ) → index < length (held file₁ .plants) →
+        (larger : OneLineLarger (held file₁) (held file₂)) (index : ℕ) → index < length (held file₁ .plants) → EmissionLine (larger .line) →
         inRow plantNumbers index unitsColumn plants₂ ≤ inRow plantNumbers index unitsColumn plants₁
-    larger-line-left larger index below =
+    larger-line-left larger index below emits =
         rw (of-plant left₂ index unitsColumn (rw (larger .plants) below), of-plant left₁ index unitsColumn below)
-        (larger-line (rows-left left₁ .accepted-file) (rows-left left₂ .accepted-file) larger index below)
+        (larger-line (rows-left left₁ .accepted-file) (rows-left left₂ .accepted-file) larger index below emits)
+
+    -- Larger captured line (rule 13.12): the period with the larger line gives no plant fewer units
+    pub larger-captured-left :
+        (larger : OneLineLarger (held file₁) (held file₂)) (index : ℕ) → index < length (held file₁ .plants) → CapturedLine (larger .line) →
+        inRow plantNumbers index unitsColumn plants₁ ≤ inRow plantNumbers index unitsColumn plants₂
+    larger-captured-left larger index below captures =
+        rw (of-plant left₂ index unitsColumn (rw (larger .plants) below), of-plant left₁ index unitsColumn below)
+        (larger-captured (rows-left left₁ .accepted-file) (rows-left left₂ .accepted-file) larger index below captures)
 
     -- Alone on its route (rule 13.8): a plant that is alone on its route in both, and the same, has the same row
     pub alone-on-its-route-left :

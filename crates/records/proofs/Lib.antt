@@ -1,7 +1,7 @@
 -- The tests of fields, the rule of the class table, and the fields of each record by their index.
 mod FieldRanges
 mod Table
-mod Classes
+pub mod Classes
 pub mod HeaderFields
 pub mod RecordFields
 -- What was read of a file from a spot on, by its limits; and a period by its parts.

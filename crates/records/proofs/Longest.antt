@@ -12,8 +12,8 @@ use Rattle.fields.proofs.Fronts.{Same, both-read, both-refused, alike, read-ali
 use Rattle.records.specs.declared.counts.Counts.{Counts}
 use Rattle.records.specs.Plants.{mostPlants, plantBytes, millionths}
 use Rattle.records.specs.Segments.{mostSegments, segmentBytes, store}
-use Rattle.records.specs.Classes.{classes, segmentOwner}
-use Rattle.records.specs.Lines.{mostLines, lineBytes, largestFactor}
+use Rattle.records.specs.Classes.{classes, segmentOwner, largestFactor}
+use Rattle.records.specs.Lines.{mostLines, lineBytes}
 use Rattle.records.specs.Headers.{edition, headerBytes, telling, headerOf}
 use Rattle.records.specs.Periods.{Period, periodFile, mostBytes}
 use Rattle.records.proofs.PeriodAlong.{Placed, PeriodField, PeriodRead, header-along, period-along}

@@ -6,9 +6,11 @@ use mathlib.Core.List.{List}
 use lib.ListN.{length, replicate, length-replicate}
 use Rattle.fields.specs.declared.reason.Reason.{Reason}
 use Rattle.fields.specs.Readers.{Reader}
+use Rattle.records.specs.declared.class.Class.{Class}
 use Rattle.records.specs.declared.counts.Counts.{Counts}
 use Rattle.records.specs.declared.limits.Limits.{Limits}
 use Rattle.records.specs.Limits.{LimitsPromise}
+use Rattle.records.specs.Classes.{ClassPromise}
 use Rattle.records.specs.FieldTests.{Allows, HeaderAllows, PlantAllows, SegmentAllows, LineAllows, HeaderReason}
 
 -- a test that is right whatever numbers come before the field: zeros, for one
@@ -35,9 +37,12 @@ pub one-line-allows :
     LineAllows counts earlier field value s → r ≡ s
 one-line-allows counts earlier field value r s p q = p ∙ sym q
 
--- `Header::reason` and `Limits::new`: their promises give the result itself
+-- `Header::reason`, `Limits::new` and `Class::of`: their promises give the result itself
 pub one-header-reason : (field : ℕ) (r s : Reason) → HeaderReason field r → HeaderReason field s → r ≡ s
 one-header-reason field r s p q = p ∙ sym q
 
 pub one-limits : (r s : Limits) → LimitsPromise r → LimitsPromise s → r ≡ s
 one-limits r s p q = p ∙ sym q
+
+pub one-class : (code : ℕ) (r s : Class) → ClassPromise code r → ClassPromise code s → r ≡ s
+one-class code r s p q = p ∙ sym q

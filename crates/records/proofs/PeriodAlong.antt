@@ -16,14 +16,14 @@ use Rattle.records.specs.declared.counts.Counts.{Counts}
 use Rattle.records.specs.Plants.{mostPlants, plantFields, plantBytes, millionths}
 use Rattle.records.specs.Segments.{mostSegments, segmentFields, segmentBytes, pipeline, store}
 use Rattle.records.specs.Classes.{segmentOwner, classes}
-use Rattle.records.specs.Lines.{mostLines, lineFields, lineBytes, largestFactor}
+use Rattle.records.specs.Lines.{mostLines, lineFields, lineBytes}
 use Rattle.records.specs.Headers.{edition, header, headerFields, headerBytes}
 use Rattle.records.specs.Periods.{Period, plant, segment, line, records, period, mostBytes}
 use Rattle.records.specs.Places.{plantPlace, segmentPlace, numberCount}
 use Rattle.records.specs.Within.{CountsWithin, countsOf, PlantWithin}
 use Rattle.records.proofs.FieldRanges.{next-at-most, owner-at-most}
 use Rattle.records.proofs.RecordsWithin.{SegmentRead, LineRead, counts-fit, plant-fit, segment-fit, line-fit}
-use Rattle.records.proofs.Classes.{code-at-most}
+use Rattle.records.proofs.Classes.{code-within, factor-at-most}
 
 -- ---- the places and the reasons of fields
 -- where the segments start, where the lines do, and where they end, by what the header announces
@@ -143,9 +143,9 @@ module _ (file : List ℕ) where
         let l = counts .most-lines in
         one-field 1 (line-field (omega arith), omega arith) (λ v _ t. omega (arith, leb-true v segmentOwner t)) (λ ownerKind a _ k to-a.
         one-field 1 (line-field (omega arith), omega arith) (λ v _ t. omega (arith, owner-at-most h ownerKind v mostSegments (omega arith) s t)) (λ owner b _ o to-b.
-        one-field 1 (line-field (omega arith), omega arith) (λ v _ t. omega (arith, code-at-most ownerKind v t)) (λ class c _ is to-c.
+        one-field 1 (line-field (omega arith), omega arith) (λ v _ t. omega (arith, code-within ownerKind v t .1)) (λ class c _ is to-c.
         one-field 5 (line-field (omega arith), omega arith) (λ v small _. omega arith) (λ quantity d small _ to-d.
-        one-field 5 (line-field (omega arith), omega arith) (λ v _ t. omega (arith, leb-true v largestFactor t)) (λ factor e _ f to-e.
+        one-field 5 (line-field (omega arith), omega arith) (λ v _ t. omega (arith, factor-at-most class v t)) (λ factor e _ f to-e.
         done (line-fit h (suc index) ownerKind owner class quantity factor k o is small f, omega arith))))))
 
     -- as many records of each kind as the header announces

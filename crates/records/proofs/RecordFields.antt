@@ -17,10 +17,10 @@ use Rattle.fields.proofs.Ranges.{at-most}
 use Rattle.records.specs.declared.counts.Counts.{Counts}
 use Rattle.records.specs.Plants.{plantFields, millionths, firstAllowed, fractionAllowed, plantOf}
 use Rattle.records.specs.Segments.{segmentFields, pipeline, store, kindAllowed, nextAllowed, segmentOf}
-use Rattle.records.specs.Classes.{classes, segmentOwner, classAllowed}
-use Rattle.records.specs.Lines.{lineFields, largestFactor, ownerKindAllowed, ownerAllowed, factorAllowed, lineOf}
+use Rattle.records.specs.Classes.{classes, segmentOwner, largestFactor, classAllowed, factorAllowed}
+use Rattle.records.specs.Lines.{lineFields, ownerKindAllowed, ownerAllowed, lineOf}
 use Rattle.records.specs.Periods.{plant, segment, line}
-use Rattle.records.proofs.Classes.{code-at-most}
+use Rattle.records.proofs.Classes.{code-within, factor-at-most}
 
 module _ (counts : Counts) where
   -- ---- a plant
@@ -121,16 +121,16 @@ module _ (counts : Counts) where
   unfolding Wants line
   line-wants = (refl, λ _. (refl, λ _. (refl, λ _. (refl, λ _. (refl, λ _. tt)))))
 
-  -- what each field is tested for; the owner's kind is the first number
-  abbrev pub lineTest : (ownerKind field : ℕ) → ℕ → Bool
-  lineTest ownerKind zero = ownerKindAllowed
-  lineTest ownerKind (suc zero) = ownerAllowed counts ownerKind
-  lineTest ownerKind (suc (suc zero)) = classAllowed ownerKind
-  lineTest ownerKind (suc (suc (suc zero))) = anyAmount
-  lineTest ownerKind (suc (suc (suc (suc zero)))) = factorAllowed
-  lineTest ownerKind (suc (suc (suc (suc (suc behind))))) = anyAmount
+  -- what each field is tested for; the owner's kind is the first number, the class the third
+  abbrev pub lineTest : (ownerKind class field : ℕ) → ℕ → Bool
+  lineTest ownerKind class zero = ownerKindAllowed
+  lineTest ownerKind class (suc zero) = ownerAllowed counts ownerKind
+  lineTest ownerKind class (suc (suc zero)) = classAllowed ownerKind
+  lineTest ownerKind class (suc (suc (suc zero))) = anyAmount
+  lineTest ownerKind class (suc (suc (suc (suc zero)))) = factorAllowed class
+  lineTest ownerKind class (suc (suc (suc (suc (suc behind))))) = anyAmount
 
-  pub line-tested : (before : List ℕ) (v : ℕ) → allowsNext (onward (line counts) before) v ≡ lineTest (number before 0) (length before) v
+  pub line-tested : (before : List ℕ) (v : ℕ) → allowsNext (onward (line counts) before) v ≡ lineTest (number before 0) (number before 2) (length before) v
   unfolding onward line
   line-tested [] v = refl
   line-tested (a ∷ []) v = refl
@@ -142,13 +142,13 @@ module _ (counts : Counts) where
 
   -- the others, and behind the last, nothing
   pub line-any :
-      (ownerKind field v : ℕ) → (field ≡ 0 → ⊥) → (field ≡ 1 → ⊥) → (field ≡ 2 → ⊥) → (field ≡ 4 → ⊥) → lineTest ownerKind field v ≡ true
-  line-any ownerKind zero v a b c e = absurd (a refl)
-  line-any ownerKind (suc zero) v a b c e = absurd (b refl)
-  line-any ownerKind (suc (suc zero)) v a b c e = absurd (c refl)
-  line-any ownerKind (suc (suc (suc zero))) v a b c e = refl
-  line-any ownerKind (suc (suc (suc (suc zero)))) v a b c e = absurd (e refl)
-  line-any ownerKind (suc (suc (suc (suc (suc behind))))) v a b c e = refl
+      (ownerKind class field v : ℕ) → (field ≡ 0 → ⊥) → (field ≡ 1 → ⊥) → (field ≡ 2 → ⊥) → (field ≡ 4 → ⊥) → lineTest ownerKind class field v ≡ true
+  line-any ownerKind class zero v a b c e = absurd (a refl)
+  line-any ownerKind class (suc zero) v a b c e = absurd (b refl)
+  line-any ownerKind class (suc (suc zero)) v a b c e = absurd (c refl)
+  line-any ownerKind class (suc (suc (suc zero))) v a b c e = refl
+  line-any ownerKind class (suc (suc (suc (suc zero)))) v a b c e = absurd (e refl)
+  line-any ownerKind class (suc (suc (suc (suc (suc behind))))) v a b c e = refl
 
   module _ (values : List ℕ) (sized : length values ≡ lineFields) where
     -- the line that it makes
@@ -171,7 +171,7 @@ module _ (counts : Counts) where
         let (_, kind, (owner, _, (_, class, (quantity, _, (_, factor, _))))) = rw (spelt-out values lineFields sized) at passed in (
           leb-true (number values 0) segmentOwner kind,
           owner,
-          code-at-most (number values 0) (number values 2) class,
+          code-within (number values 0) (number values 2) class .1,
           quantity,
-          leb-true (number values 4) largestFactor factor,
+          factor-at-most (number values 2) (number values 4) factor,
         )

@@ -17,12 +17,13 @@ use Rattle.records.specs.declared.plant.Plant.{Plant}
 use Rattle.records.specs.declared.segment.Segment.{Segment}
 use Rattle.records.specs.Plants.{mostPlants, plantsAllowed, millionths, firstAllowed, fractionAllowed, plantOf}
 use Rattle.records.specs.Segments.{mostSegments, segmentsAllowed, kindAllowed, nextAllowed, segmentOf}
-use Rattle.records.specs.Classes.{segmentOwner, classAllowed}
-use Rattle.records.specs.Lines.{mostLines, linesAllowed, largestFactor, ownerKindAllowed, ownerAllowed, factorAllowed, lineOf}
+use Rattle.records.specs.Classes.{segmentOwner, classAllowed, factorAllowed}
+use Rattle.records.specs.Lines.{mostLines, linesAllowed, ownerKindAllowed, ownerAllowed, lineOf}
 use Rattle.records.specs.Headers.{announced, header}
 use Rattle.records.specs.Periods.{plant, segment, line, plantsOf, segmentsOf, linesOf}
 use Rattle.records.specs.Within.{CountsWithin, PlantWithin, SegmentWithin, KindWithin, LineWithin, ClassWithin}
 use Rattle.records.proofs.FieldRanges.{next-is, owner-plant, owner-segment, some-owner}
+use Rattle.records.proofs.Classes.{factor-at-most}
 
 -- a segment with its kind, and a line with its class
 abbrev pub SegmentRead : Counts → (own : ℕ) → Segment → Type 0
@@ -61,7 +62,7 @@ module _ (counts : Counts) (own : ℕ) where
 
   pub line-fit :
       (ownerKind owner class quantity factor : ℕ) → ownerKindAllowed ownerKind ≡ true → ownerAllowed counts ownerKind owner ≡ true →
-      classAllowed ownerKind class ≡ true → quantity ≤ largest → factorAllowed factor ≡ true →
+      classAllowed ownerKind class ≡ true → quantity ≤ largest → factorAllowed class factor ≡ true →
       LineRead counts own (lineOf ownerKind owner class quantity factor)
   line-fit ownerKind owner class quantity factor k o is small f =
       let kind-is : ownerKind ≤ segmentOwner = leb-true ownerKind segmentOwner k in (
@@ -71,9 +72,9 @@ module _ (counts : Counts) (own : ℕ) where
           plant = λ kind. at-most 1 (counts .plants) owner (sym (owner-plant counts ownerKind owner kind) ∙ o);
           segment = λ kind. at-most 1 (counts .segments) owner (sym (owner-segment counts ownerKind owner kind) ∙ o);
           quantity = small;
-          factor = leb-true factor largestFactor f;
+          factor = factor-at-most class factor f;
         },
-        is,
+        record { owner = is; factor = f },
       )
 
 -- ---- what each reader gives

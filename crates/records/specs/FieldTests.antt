@@ -29,7 +29,7 @@ PlantAllows counts = Allows (plant counts)
 abbrev pub SegmentAllows : (counts : Counts) (own : ℕ) (earlier : List ℕ) (field value : ℕ) → Bool → Type 0
 SegmentAllows counts own earlier field value answer = answer ≡ allowsNext (onward (segment counts own) (take field earlier)) value
 
--- `Line::allows`: the same (rules 2.8, 3.1 and 3.2).
+-- `Line::allows`: the same (rules 2.8 and 3.1 to 3.3).
 abbrev pub LineAllows : (counts : Counts) (earlier : List ℕ) (field value : ℕ) → Bool → Type 0
 LineAllows counts earlier field value answer = answer ≡ allowsNext (onward (line counts) (take field earlier)) value
 

@@ -4,8 +4,8 @@ use lib.ListN.{length}
 use Rattle.records.specs.declared.limits.Limits.{Limits}
 use Rattle.records.specs.Plants.{mostPlants, millionths}
 use Rattle.records.specs.Segments.{mostSegments, store}
-use Rattle.records.specs.Classes.{classes}
-use Rattle.records.specs.Lines.{mostLines, largestFactor, mostGrams}
+use Rattle.records.specs.Classes.{classes, largestFactor}
+use Rattle.records.specs.Lines.{mostLines, mostGrams}
 use Rattle.records.specs.Periods.{mostNumbers, mostBytes}
 
 -- The limits that the code has to have (rule 9.1).

@@ -15,11 +15,7 @@ mostLines = 512
 abbrev pub linesAllowed : ℕ → Bool
 linesAllowed = upTo mostLines
 
--- The largest factor, in grams of CO2e for one unit (rule 2.8).
-abbrev pub largestFactor : ℕ
-largestFactor = 1_000_000_000
-
--- The most grams of all lines of one owner (rule 8.5).
+-- The most grams that one owner's lines add up to (rule 8.5).
 abbrev pub mostGrams : ℕ
 mostGrams = 4_000_000_000_000
 
@@ -31,10 +27,6 @@ ownerKindAllowed = upTo segmentOwner
 abbrev pub ownerAllowed : Counts → (ownerKind owner : ℕ) → Bool
 ownerAllowed counts ownerKind owner =
     eqb ownerKind plantOwner && within 1 (counts .plants) owner || eqb ownerKind segmentOwner && within 1 (counts .segments) owner
-
--- A factor is at most the largest; it may be 0 (rule 2.8).
-abbrev pub factorAllowed : ℕ → Bool
-factorAllowed = upTo largestFactor
 
 -- The line of these fields.
 abbrev pub lineOf : (ownerKind owner class quantity factor : ℕ) → Line

@@ -12,8 +12,8 @@ use Rattle.records.specs.declared.segment.Segment.{Segment}
 use Rattle.records.specs.declared.line.Line.{Line}
 use Rattle.records.specs.Plants.{mostPlants, plantFields, plantBytes, firstAllowed, fractionAllowed, plantOf}
 use Rattle.records.specs.Segments.{mostSegments, segmentFields, segmentBytes, kindAllowed, nextAllowed, segmentOf}
-use Rattle.records.specs.Classes.{classAllowed}
-use Rattle.records.specs.Lines.{mostLines, lineFields, lineBytes, ownerKindAllowed, ownerAllowed, factorAllowed, lineOf}
+use Rattle.records.specs.Classes.{classAllowed, factorAllowed}
+use Rattle.records.specs.Lines.{mostLines, lineFields, lineBytes, ownerKindAllowed, ownerAllowed, lineOf}
 use Rattle.records.specs.Headers.{header, headerFields, headerBytes}
 
 -- The records of a file that was read.
@@ -42,14 +42,14 @@ segment counts own = do
   next ← field WrongSegment (nextAllowed counts own kind)
   return (segmentOf kind outflow next)
 
--- A line's record (rule 2.8).
+-- A line's record (rules 2.8, 3.2 and 3.3).
 unfoldable pub line : Counts → Reader Line
 line counts = do
   ownerKind ← field WrongLine ownerKindAllowed
   owner ← field WrongLine (ownerAllowed counts ownerKind)
   class ← field WrongLine (classAllowed ownerKind)
   quantity ← field WrongLine anyAmount
-  factor ← field WrongLine factorAllowed
+  factor ← field WrongLine (factorAllowed class)
   return (lineOf ownerKind owner class quantity factor)
 
 -- The plants: as many as the header says, numbered from 1 (rule 2.2).

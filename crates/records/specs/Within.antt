@@ -12,8 +12,8 @@ use Rattle.records.specs.declared.segment.Segment.{Segment}
 use Rattle.records.specs.declared.line.Line.{Line}
 use Rattle.records.specs.Plants.{mostPlants, millionths}
 use Rattle.records.specs.Segments.{mostSegments, kindAllowed, nextAllowed}
-use Rattle.records.specs.Classes.{plantOwner, segmentOwner, classAllowed}
-use Rattle.records.specs.Lines.{mostLines, largestFactor}
+use Rattle.records.specs.Classes.{plantOwner, segmentOwner, largestFactor, classAllowed, factorAllowed}
+use Rattle.records.specs.Lines.{mostLines}
 use Rattle.records.specs.Headers.{announced}
 use Rattle.records.specs.Periods.{Period}
 
@@ -59,9 +59,10 @@ pub record LineWithin (counts : Counts) (own : ℕ) (line : Line) : Type 0 where
   pub quantity : line .quantity ≤ largest
   pub factor : line .factor ≤ largestFactor
 
--- A line's class: the table has it for such an owner (rule 3.2).
-abbrev pub ClassWithin : ℕ → Line → Type 0
-ClassWithin own line = classAllowed (line .«owner_kind») (line .class) ≡ true
+-- A line's class: the table has it for such an owner, and with such a factor (rules 3.2 and 3.3).
+pub record ClassWithin (own : ℕ) (line : Line) : Type 0 where
+  pub owner : classAllowed (line .«owner_kind») (line .class) ≡ true
+  pub factor : factorAllowed (line .class) (line .factor) ≡ true
 
 -- A period: its counts, and each of its records (rule 2.10).
 pub record Within (period : Period) : Type 0 where

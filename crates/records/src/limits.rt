@@ -45,7 +45,7 @@ impl Limits {
             fraction: Plant::LARGEST_FRACTION,
             kind: Segment::STORE,
             class: Class::LAST,
-            factor: Line::LARGEST_FACTOR,
+            factor: Class::LARGEST_FACTOR,
             grams: Line::MOST_GRAMS,
             numbers: Limits::NUMBERS as u64,
             bytes: Limits::BYTES,

@@ -1,6 +1,6 @@
 // Lines: an owner, a class, a quantity, and the grams for one unit of it (rule 2.8).
 ghost use mathlib.Core.Path.{_≡_};
-ghost use Rattle.records.specs.Lines.{factorAllowed, linesAllowed, ownerAllowed, ownerKindAllowed};
+ghost use Rattle.records.specs.Lines.{linesAllowed, ownerAllowed, ownerKindAllowed};
 ghost use Rattle.records.specs.FieldTests.{LineAllows};
 use crate::class::Class;
 use crate::counts::Counts;
@@ -24,9 +24,7 @@ impl Line {
     pub const FIELDS: usize = 5;
 
     pub const BYTES: usize = 1 + 1 + 1 + 5 + 5;
-    // The largest factor, in grams of CO2e for one unit (rule 2.8).
-    pub const LARGEST_FACTOR: u64 = 1_000_000_000;
-    // The most grams of all lines of one owner (rule 8.5).
+    // The most grams that one owner's lines add up to (rule 8.5).
     pub const MOST_GRAMS: u64 = 4_000_000_000_000;
 
     // Whether a period may have that many lines (rule 2.3).
@@ -36,7 +34,7 @@ impl Line {
         count <= Line::MOST as u64
     }
 
-    // Whether the field at an index of a line's record allows a value, by the numbers before it (rules 2.8, 3.1 and 3.2).
+    // Whether the field at an index of a line's record allows a value, by the numbers before it (rules 2.8 and 3.1 to 3.3).
     pub fn allows(field: usize, value: u64, earlier: [u64; Line::FIELDS], counts: Counts) -> bool
         ensures { λ r. ⌜ LineAllows counts earlier field value r ⌝ }
     {
@@ -44,7 +42,7 @@ impl Line {
             0 => Line::owner_kind_allowed(value),
             1 => Line::owner_allowed(value, earlier[0], counts),
             2 => Class::allowed(value, earlier[0]),
-            4 => Line::factor_allowed(value),
+            4 => Class::factor_allowed(earlier[2], value),
             _ => true,
         }
     }
@@ -65,12 +63,5 @@ impl Line {
             Segment::OWNER_KIND => 1 <= owner && owner <= counts.segments,
             _ => false,
         }
-    }
-
-    // Whether a line may have this factor (rule 2.8).
-    fn factor_allowed(factor: u64) -> bool
-        ensures { λ r. ⌜ r ≡ factorAllowed factor ⌝ }
-    {
-        factor <= Line::LARGEST_FACTOR
     }
 }

@@ -5,9 +5,9 @@ use Rattle.number.specs.Groups.{gather, value, padded}
 use Rattle.number.specs.Reading.{reading, readAt, formed}
 use Rattle.number.specs.Counting.{startOf}
 use Rattle.fields.specs.Readers.{each, reads}
-use Rattle.fields.specs.Tests.{testedBy}
+use Rattle.fields.specs.Tests.{testedBy, listed}
 use Rattle.fields.specs.Lists.{sum}
-use Rattle.records.specs.Classes.{classes, classAllowed}
+use Rattle.records.specs.Classes.{classes, classOf}
 use Rattle.records.specs.Headers.{header}
 use Rattle.records.specs.Periods as periods
 use Rattle.records.specs.Periods.{plant, segment, records, period, periodFile}
@@ -15,7 +15,7 @@ use Rattle.accounts.specs.Emissions.{chosen, gramsOf, emission}
 use Rattle.accounts.specs.Flow.{creditsFrom, passed, turns, arrived}
 use Rattle.accounts.specs.Accounts.{setOf, account}
 use Rattle.accounts.specs.Rows.{plantRows, segmentRows}
-use Rattle.accounts.specs.Order.{lineTests, segmentTests}
+use Rattle.accounts.specs.Order.{lineTests, emissionTests, segmentTests}
 use Rattle.accounts.specs.Quantified.{accountsOf, rows, judged, quantified}
 use Rattle.output.specs.Words.{ascii}
 use Rattle.output.specs.Decimal.{decimalWithin}
@@ -43,7 +43,7 @@ pub examples :
     × (printedRows (0x80 ∷ 0x00 ∷ []) ≡ ascii "R 2 0 0\n")
     × (printedRows (0x02 ∷ []) ≡ ascii "R 4 0 0\n")
     × (printedRows (0x01 ∷ 0x00 ∷ []) ≡ ascii "R 5 1 1\n")
-unfolding gather value padded reading formed zipWith flatMap classes classAllowed readAt startOf each reads header plant segment periods.line records period
-    periodFile sum chosen gramsOf emission creditsFrom passed turns arrived setOf account plantRows segmentRows testedBy lineTests segmentTests
+unfolding gather value padded reading formed zipWith flatMap classes classOf readAt startOf each reads header plant segment periods.line records period
+    periodFile sum chosen gramsOf emission creditsFrom passed turns arrived setOf account plantRows segmentRows testedBy listed lineTests emissionTests segmentTests
     accountsOf rows judged quantified decimalWithin textLine rowsText printedRows
 examples = (refl, refl, refl, refl, refl, refl)

@@ -10,18 +10,16 @@ use Rattle.fields.specs.Answers.{Verdict, accepts, refuses, said}
 use Rattle.fields.specs.Readers.{Read, read, refused}
 use Rattle.fields.specs.Tests.{Test, refusalBy, testedBy}
 use Rattle.records.specs.declared.counts.Counts.{Counts}
-use Rattle.records.specs.declared.plant.Plant.{Plant}
-use Rattle.records.specs.declared.segment.Segment.{Segment}
 use Rattle.records.specs.Classes.{plantOwner, segmentOwner}
 use Rattle.records.specs.Periods.{Period, periodFile}
-use Rattle.records.specs.Within.{CountsWithin, countsOf}
+use Rattle.records.specs.Within.{CountsWithin}
 use Rattle.accounts.specs.Order.{segmentTests}
 use Rattle.accounts.specs.Quantified.{accountsOf}
 use Rattle.gathering.specs.declared.gathering.Gathered.{Gathered}
 use Rattle.gathering.specs.Gathered.{gatheringTests, Contents, nothingGathered, gatheredOf, gatheredAfter, gathering, GatherPromise}
 use Rattle.gathering.proofs.Accepting.{Bounded, accepted-bounded}
 use Rattle.settling.specs.declared.settling.Settled.{Settled}
-use Rattle.settling.specs.Settled.{Settlement, nothingSettled, settledOf, settledBy, settledPeriod, settledAfter, settlement, Settles, SettlePromise}
+use Rattle.settling.specs.Settled.{Settlement, nothingSettled, settledOf, settledBy, settledPeriod, settledAfter, settlement, SettlePromise}
 use Rattle.settling.specs.Kept.{plantsBy, segmentsBy}
 use Rattle.settling.specs.Inside.{EmissionsOf, Given, workedOff, SettledBy, nothingKept}
 use Rattle.settling.proofs.ByColumns.{plants-are, segments-are, emission-at, no-emission, small-column, column-sized}
@@ -95,18 +93,18 @@ module _ (file : List ℕ) where
         plants-filled = rw its-plants (promise .plants);
         segments-filled = rw its-segments (promise .segments);
         small = record {
-          plants = small-column plantOwner _ (period .lines) _ (promise .emissions .plants) (bounded .most plantOwner);
-          segments = small-column segmentOwner _ (period .lines) _ (promise .emissions .segments) (bounded .most segmentOwner);
-          sized = column-sized segmentOwner _ (period .lines) _ (promise .emissions .segments) (bounded .within .counts .most-segments);
+          plants = small-column plantOwner _ (period .lines) _ (promise .emissions .plants-are) (bounded .most plantOwner);
+          segments = small-column segmentOwner _ (period .lines) _ (promise .emissions .segments-are) (bounded .most segmentOwner);
+          sized = column-sized segmentOwner _ (period .lines) _ (promise .emissions .segments-are) (bounded .within .counts .most-segments);
         };
       }
 
       -- its owners emit what its lines say
       emitted : EmissionsOf (r .counts) (period .lines) (r .emissions)
       emitted = rw (promise .counts) (record {
-        plants = emission-at plantOwner _ (period .lines) _ (promise .emissions .plants);
-        segments = emission-at segmentOwner _ (period .lines) _ (promise .emissions .segments);
-        behind = no-emission segmentOwner _ (period .lines) _ (promise .emissions .segments);
+        plants = emission-at plantOwner _ (period .lines) _ (promise .emissions .plants-are);
+        segments = emission-at segmentOwner _ (period .lines) _ (promise .emissions .segments-are);
+        behind = no-emission segmentOwner _ (period .lines) _ (promise .emissions .segments-are);
       })
 
       pub settled-whole : (told : Settled) → SettledBy (r .plants) (r .segments) (r .counts) (r .emissions) told → SettlePromise file told

@@ -1,6 +1,6 @@
 //! The whole of the paper in its order: from the bytes of a file to the rows.
 
-use super::emissions::emissions_of;
+use super::emissions::{emissions_of, gram_totals_of};
 use super::flow::flow_of;
 use super::reading::read_numbers;
 use super::records::Period;
@@ -43,7 +43,8 @@ impl Tables {
 }
 
 /// The rows of the period that the file holds, or the first refusal. A line is found by its first
-/// byte; segments and tables have no byte of their own, and the whole file was read by then.
+/// byte; plants, segments and tables have no byte of their own here, and the whole file was read by
+/// then.
 pub fn account(file: &[u8], tables: Tables) -> Result<Rows, Refused> {
     let numbers = read_numbers(file)?;
     let period = Period::from_numbers(numbers.numbers());
@@ -53,7 +54,8 @@ pub fn account(file: &[u8], tables: Tables) -> Result<Rows, Refused> {
     };
     let behind_all = |refused: Placed| refused.with_offset(file.len() as u64);
 
-    let emissions = emissions_of(&period).map_err(at_line)?;
+    let totals = gram_totals_of(&period).map_err(at_line)?;
+    let emissions = emissions_of(&totals).map_err(behind_all)?;
     let flow = flow_of(&period, &emissions.segments).map_err(behind_all)?;
     tables.check(&period).map_err(behind_all)?;
     Ok(Rows::new(&period, &emissions, &flow))
@@ -77,6 +79,7 @@ mod tests {
     const GRAMS_PAST_LIMIT: [(usize, u64); 2] = [(19, 4_000_000_000), (20, 1001)];
     const OUTFLOW_OVER_INFLOW: [(usize, u64); 1] = [(11, 15_002)];
     const NOTHING_EXPORTED: [(usize, u64); 4] = [(4, 0), (7, 0), (11, 0), (14, 0)];
+    const CAPTURED_WITHOUT_FUEL: [(usize, u64); 3] = [(18, 9), (19, 1), (20, 1000)];
 
     const EMPTY_TABLES: Tables = Tables {
         plant: 0,
@@ -122,6 +125,24 @@ mod tests {
         assert_eq!(
             refused_with(&[&NOTHING_EXPORTED, &GRAMS_PAST_LIMIT]),
             "R 10 1 20"
+        );
+    }
+
+    #[test]
+    fn captured_grams_come_between_gram_totals_and_flow() {
+        let second_past_limit: [(usize, u64); 2] = [(24, 4_000_000_000), (25, 1001)];
+        assert_eq!(refused_with(&[&CAPTURED_WITHOUT_FUEL]), "R 16 1 36");
+        assert_eq!(
+            refused_with(&[&CAPTURED_WITHOUT_FUEL, &second_past_limit]),
+            "R 10 2 30"
+        );
+        assert_eq!(
+            refused_with(&[&CAPTURED_WITHOUT_FUEL, &OUTFLOW_OVER_INFLOW]),
+            "R 16 1 36"
+        );
+        assert_eq!(
+            refused_with(&[&CAPTURED_WITHOUT_FUEL, &NOTHING_EXPORTED]),
+            "R 16 1 32"
         );
     }
 

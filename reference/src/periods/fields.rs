@@ -1,5 +1,6 @@
 //! Which field each number of a period file is, and what it may be.
 
+use super::classes::{classes_of, factors_of};
 use super::record_places::{RecordKind, RecordPlace};
 use super::records::{Line, Owner, Plant, Segment, ANY_NUMBER, EDITION, HEADER_NUMBERS};
 use crate::refusal::Reason;
@@ -81,9 +82,9 @@ fn allowed_in_line(record: &[u64], plants: u64, segments: u64) -> RangeInclusive
         [] => Owner::KINDS,
         [Owner::PLANT] => 1..=plants,
         [_] => 1..=segments,
-        [kind, _] => Owner::classes(kind),
+        [kind, _] => classes_of(kind),
         [_, _, _] => ANY_NUMBER,
-        _ => Line::FACTORS,
+        [_, _, class, ..] => factors_of(class),
     }
 }
 
@@ -114,7 +115,7 @@ mod tests {
             (0..=0, SegmentField),
             (0..=1, LineField),
             (1..=2, LineField),
-            (1..=8, LineField),
+            (1..=9, LineField),
             (0..=4_000_000_000, LineField),
             (0..=1_000_000_000, LineField),
             (0..=1, LineField),
@@ -126,6 +127,16 @@ mod tests {
         let expected = expected.map(|(allowed, reason)| field(allowed, reason));
         assert_eq!(fields_of(&WHOLE_PERIOD), expected);
         assert_eq!(field_after(&WHOLE_PERIOD), None);
+    }
+
+    #[test]
+    fn factor_of_captured_fossil_is_one_kg() {
+        let mut numbers = WHOLE_PERIOD[..20].to_vec();
+        numbers[18] = 9;
+        assert_eq!(
+            field_after(&numbers),
+            Some(field(1000..=1000, Reason::LineField))
+        );
     }
 
     #[test]

@@ -2,7 +2,9 @@
 
 mod account_limits;
 pub mod accounts;
+mod captured;
 mod case;
+mod classes;
 mod emissions;
 mod fields;
 mod flow;

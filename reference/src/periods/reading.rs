@@ -39,10 +39,12 @@ mod tests {
 
     /// What the whole period is refused for with one number replaced.
     fn refused_with(place: usize, value: u64) -> String {
-        refused(&write_numbers(&with_values(
-            &WHOLE_PERIOD,
-            &[(place, value)],
-        )))
+        refused_with_all(&[(place, value)])
+    }
+
+    /// What the whole period is refused for with some numbers replaced.
+    fn refused_with_all(values: &[(usize, u64)]) -> String {
+        refused(&write_numbers(&with_values(&WHOLE_PERIOD, values)))
     }
 
     #[test]
@@ -100,11 +102,12 @@ mod tests {
         assert_eq!(refused_with(17, 3), "R 8 17 25");
         assert_eq!(refused_with(18, 0), "R 8 18 26");
         assert_eq!(refused_with(18, 8), "accepted");
-        assert_eq!(refused_with(18, 9), "R 8 18 26");
+        assert_eq!(refused_with(18, 9), "R 8 20 29", "its factor is 350");
+        assert_eq!(refused_with(18, 10), "R 8 18 26");
         assert_eq!(refused_with(19, LIMIT), "accepted");
         assert_eq!(refused_with(20, 1_000_000_000), "accepted");
         assert_eq!(refused_with(20, 1_000_000_001), "R 8 20 29");
-        for class in [0, 1, 2, 8] {
+        for class in [0, 1, 2, 8, 9, 10] {
             assert_eq!(
                 refused_with(23, class),
                 "R 8 23 33",
@@ -117,10 +120,21 @@ mod tests {
     }
 
     #[test]
+    fn captured_fossil_has_one_factor() {
+        let with_factor = |factor| refused_with_all(&[(18, 9), (20, factor)]);
+        assert_eq!(with_factor(1000), "accepted");
+        for factor in [0, 1, 999, 1001, 1_000_000_000, 1_000_000_001, LIMIT] {
+            assert_eq!(with_factor(factor), "R 8 20 29", "factor {factor}");
+        }
+        assert_eq!(
+            refused_with_all(&[(18, 9), (19, LIMIT), (20, 999)]),
+            "R 8 20 32"
+        );
+    }
+
+    #[test]
     fn store_before_the_last_segment_is_allowed() {
-        let changes = [(10, 6), (12, 0)];
-        let file = write_numbers(&with_values(&WHOLE_PERIOD, &changes));
-        assert_eq!(refused(&file), "accepted");
+        assert_eq!(refused_with_all(&[(10, 6), (12, 0)]), "accepted");
     }
 
     #[test]

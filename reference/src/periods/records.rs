@@ -102,19 +102,6 @@ impl Owner {
     pub const SEGMENT: u64 = 1;
     /// The owner kinds there are.
     pub const KINDS: RangeInclusive<u64> = Owner::PLANT..=Owner::SEGMENT;
-    /// The classes that the lines of a plant may have.
-    const PLANT_CLASSES: RangeInclusive<u64> = 1..=8;
-    /// The classes that the lines of a segment may have: neither biomass nor waste disposal.
-    const SEGMENT_CLASSES: RangeInclusive<u64> = 3..=7;
-
-    /// The classes allowed for an owner of this kind.
-    pub fn classes(kind: u64) -> RangeInclusive<u64> {
-        if kind == Owner::PLANT {
-            Owner::PLANT_CLASSES
-        } else {
-            Owner::SEGMENT_CLASSES
-        }
-    }
 
     /// The owner from its kind and number.
     fn from_numbers(kind: u64, number: usize) -> Self {
@@ -134,7 +121,8 @@ impl Owner {
     }
 }
 
-/// An emission: a quantity of something, and the grams CO2e of one unit of it.
+/// A quantity of something, and the grams CO2e of one unit of it, which are emitted or, for one
+/// class, captured.
 #[derive(Clone, Debug, PartialEq, Eq)]
 pub struct Line {
     pub owner: Owner,
@@ -149,10 +137,11 @@ impl Line {
     pub const COUNT: RangeInclusive<u64> = 0..=512;
     /// Numbers of a record.
     pub const NUMBERS: usize = 5;
-    /// Places of the owner's number and of the class in a record; the owner kind comes first.
+    /// Places of fields in a record; the owner kind comes first.
     pub const OWNER_NUMBER_AT: usize = 1;
     pub const CLASS_AT: usize = 2;
-    /// The factors allowed.
+    pub const FACTOR_AT: usize = 4;
+    /// The factors there are; a class may allow fewer.
     pub const FACTORS: RangeInclusive<u64> = 0..=1_000_000_000;
 
     /// The record from its numbers in file order.
@@ -266,11 +255,5 @@ mod tests {
         assert_eq!(period.place_of_line(2), 21);
         period.plants.pop();
         assert_eq!(period.place_of_line(2), 18);
-    }
-
-    #[test]
-    fn classes_are_those_of_the_paper() {
-        assert_eq!(Owner::classes(Owner::PLANT), 1..=8);
-        assert_eq!(Owner::classes(Owner::SEGMENT), 3..=7);
     }
 }

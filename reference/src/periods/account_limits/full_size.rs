@@ -1,7 +1,7 @@
 //! Full-size periods that the others here are made from, and what is set in them.
 
 use crate::numbers::number::LIMIT;
-use crate::periods::emissions::GRAMS_OF_A_KG;
+use crate::periods::classes::{classes_of, factors_of, CAPTURED_FOSSIL, FUEL, GRAMS_OF_A_KG};
 use crate::periods::outflows::choose_outflows;
 use crate::periods::records::{Line, Owner, Period, Plant, Segment};
 use crate::seeded::Seeded;
@@ -21,8 +21,6 @@ pub const OWNERS_AT_ENDS: [Owner; 4] = [
 pub const NO_NEXT: usize = 0;
 /// How many kinds of segments lead on.
 const LEADING_KINDS: u64 = Segment::STORE - 1;
-/// The class fuel, which plants and segments may have.
-const FUEL: u64 = 3;
 
 /// A period in which each plant starts and each segment leads on as is given for its number.
 /// Nothing is exported, and no line has grams.
@@ -57,7 +55,8 @@ fn segment_to(next: usize) -> Segment {
 }
 
 /// A line of 0 grams, though one of its numbers is the largest. Lines go round the owners, and
-/// with every round an owner's class changes and which of the numbers is 0.
+/// with every round an owner's class changes and which of the numbers is 0, unless the class has
+/// but one factor.
 fn line_without_grams(index: usize) -> Line {
     const OWNERS: usize = PLANTS + SEGMENTS;
     let round = index / OWNERS;
@@ -66,15 +65,17 @@ fn line_without_grams(index: usize) -> Line {
         other => Owner::Segment(other - PLANTS + 1),
     };
     let (kind, number) = owner.numbers();
-    let classes: Vec<u64> = Owner::classes(kind).collect();
-    let (quantity, factor) = if round % 2 == 0 {
+    let classes: Vec<u64> = classes_of(kind).collect();
+    let class = classes[(number + round) % classes.len()];
+    let factors = factors_of(class);
+    let (quantity, factor) = if round % 2 == 0 && factors.contains(&0) {
         (LIMIT, 0)
     } else {
-        (0, *Line::FACTORS.end())
+        (0, *factors.end())
     };
     Line {
         owner,
-        class: classes[(number + round) % classes.len()],
+        class,
         quantity,
         factor,
     }
@@ -133,7 +134,7 @@ pub fn let_all_pass(period: &mut Period) {
     choose_outflows(period, |_, inflow| inflow.min(LIMIT));
 }
 
-/// Makes the line of this number one of the owner, with this quantity and this factor.
+/// Makes the line of this number one of the owner's fuel, with this quantity and this factor.
 pub fn set_line(period: &mut Period, number: usize, owner: Owner, quantity: u64, factor: u64) {
     period.lines[number - 1] = Line {
         owner,
@@ -143,14 +144,24 @@ pub fn set_line(period: &mut Period, number: usize, owner: Owner, quantity: u64,
     };
 }
 
-/// Makes the line of this number one of the owner, with `kg` kg.
+/// Makes the line of this number one of the owner's fuel, with `kg` kg.
 pub fn set_kg(period: &mut Period, number: usize, owner: Owner, kg: u64) {
     set_line(period, number, owner, kg, GRAMS_OF_A_KG);
 }
 
-/// Makes the line of this number one of the owner, with `grams` grams.
+/// Makes the line of this number one of the owner's fuel, with `grams` grams.
 pub fn set_grams(period: &mut Period, number: usize, owner: Owner, grams: u64) {
     set_line(period, number, owner, grams, 1);
+}
+
+/// Makes the line of this number one of what the plant captured of its fuel's CO2, `kg` kg.
+pub fn set_captured(period: &mut Period, number: usize, plant: usize, kg: u64) {
+    period.lines[number - 1] = Line {
+        owner: Owner::Plant(plant),
+        class: CAPTURED_FOSSIL,
+        quantity: kg,
+        factor: GRAMS_OF_A_KG,
+    };
 }
 
 #[cfg(test)]
@@ -186,7 +197,7 @@ mod tests {
     fn lines_without_grams_have_every_owner_and_class() {
         let period = through_all();
         for kind in Owner::KINDS {
-            for class in Owner::classes(kind) {
+            for class in classes_of(kind) {
                 let found = |line: &Line| line.owner.numbers().0 == kind && line.class == class;
                 assert!(period.lines.iter().any(found));
             }

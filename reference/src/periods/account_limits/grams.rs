@@ -4,7 +4,8 @@ use super::full_size::{
     set_grams, set_kg, set_line, through_all_at_limit, LINES, OWNERS_AT_ENDS, PLANTS, SEGMENTS,
 };
 use crate::numbers::number::LIMIT;
-use crate::periods::emissions::{GRAMS_OF_A_KG, LARGEST_GRAM_TOTAL};
+use crate::periods::classes::GRAMS_OF_A_KG;
+use crate::periods::emissions::LARGEST_GRAM_TOTAL;
 use crate::periods::records::{Line, Owner, Period};
 
 /// Owners of which two have lines by turns, some with the same number.

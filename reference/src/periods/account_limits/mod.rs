@@ -2,6 +2,7 @@
 
 #[cfg(test)]
 mod answers;
+pub mod captured;
 pub mod charges;
 pub mod dry;
 pub mod full_size;
@@ -21,6 +22,7 @@ pub fn about_every_subject() -> Vec<Period> {
     let subjects = [
         inflows::around_limit(),
         grams::around_limit(),
+        captured::beside_fuel(),
         rounding::once_a_total(),
         outflows::beside_inflow(),
         dry::with_and_without_grams(),

@@ -1,12 +1,12 @@
-//! Several faults in one period: the order of refusals 10 to 13.
+//! Several faults in one period: the order of refusals 10, 16, and 11 to 13.
 
 use super::full_size::{
-    export_each, full_size, let_all_pass, set_grams, set_kg, set_line, LINES, NO_NEXT, PLANTS,
-    SEGMENTS,
+    export_each, full_size, let_all_pass, set_captured, set_grams, set_kg, set_line, LINES,
+    NO_NEXT, PLANTS, SEGMENTS,
 };
 use super::inflows::TURNS_OVER;
 use crate::numbers::number::LIMIT;
-use crate::periods::emissions::GRAMS_OF_A_KG;
+use crate::periods::classes::GRAMS_OF_A_KG;
 use crate::periods::records::{Owner, Period};
 
 /// What can be wrong at a segment.
@@ -31,7 +31,7 @@ const PLANTS_AT_FAULT: usize = 2;
 const EXPORT_AT_FAULT: u64 = LIMIT / PLANTS_AT_FAULT as u64 + 1;
 
 /// Every two faults at every two segments, two faults at one segment, inflows that 32 bits
-/// cannot hold, and a gram total past its limit besides.
+/// cannot hold; and a gram total past its limit, more captured than fuel gives, or both besides.
 pub fn of_several_faults() -> Vec<Period> {
     let mut periods = Vec::new();
     for (one, other) in pairs_of_segments() {
@@ -40,8 +40,13 @@ pub fn of_several_faults() -> Vec<Period> {
                 let faults = [(one, fault), (other, fault_of_other)];
                 periods.push(with_faults(&faults));
                 periods.push(with_gram_total(with_faults(&faults)));
+                periods.push(with_captured(with_faults(&faults)));
             }
         }
+    }
+    for fault in FAULTS {
+        let period = with_captured(with_faults(&[(1, fault)]));
+        periods.push(with_gram_total(period));
     }
     for segment in 1..=SEGMENTS {
         periods.push(outflow_and_emission(segment));
@@ -113,6 +118,16 @@ fn with_gram_total(mut period: Period) -> Period {
     period
 }
 
+/// The plant of which more is captured than its fuel gives, and the line that says so.
+const PLANT_ABOVE_FUEL: usize = 2;
+const LINE_ABOVE_FUEL: usize = 100;
+
+/// The period with a plant that captured a kg without fuel.
+fn with_captured(mut period: Period) -> Period {
+    set_captured(&mut period, LINE_ABOVE_FUEL, PLANT_ABOVE_FUEL, 1);
+    period
+}
+
 /// Nothing flows in at the segment, yet it has an outflow and an emission.
 fn outflow_and_emission(segment: usize) -> Period {
     with_faults(&[
@@ -176,6 +191,15 @@ mod tests {
         for fault in FAULTS {
             let period = with_gram_total(with_faults(&[(1, fault), (2, fault)]));
             assert_eq!(answer(&period), "R 10 512");
+        }
+    }
+
+    #[test]
+    fn captured_grams_come_between_gram_totals_and_segments() {
+        for fault in FAULTS {
+            let period = with_captured(with_faults(&[(1, fault), (2, fault)]));
+            assert_eq!(answer(&period), "R 16 2");
+            assert_eq!(answer(&with_gram_total(period)), "R 10 512");
         }
     }
 

@@ -28,7 +28,7 @@ impl Question for HistorianCall {
 
     const LABELS: &'static [&'static str] = &[
         "A", "R1", "R2", "R3", "R4", "R5", "R6", "R7", "R8", "R9", "R10", "R11", "R12", "R13",
-        "R14", "R15",
+        "R14", "R15", "R16",
     ];
 
     fn write_frame(&self, frames: &mut Vec<u8>) {

@@ -9,9 +9,10 @@ pub mod table_bytes;
 mod table_lengths;
 
 use super::account_limits::{
-    charges, dry, grams, inflows, order, outflows, results, rounding, routes,
+    captured, charges, dry, grams, inflows, order, outflows, results, rounding, routes,
 };
 use super::accounts::Tables;
+use super::captured::small_cases;
 use super::case::PeriodCase;
 use super::lengths::refused_cases;
 use super::paper::proved_cases;
@@ -44,6 +45,14 @@ pub fn historian_suites() -> Vec<Suite<HistorianCall>> {
         Suite::new(
             "historian, refused behind numbers of every length",
             calls_of_every_length(),
+        ),
+        Suite::new(
+            "historian, captured fossil CO2 in small periods",
+            small_cases().into_iter().map(HistorianCall::of).collect(),
+        ),
+        full_size(
+            "historian, captured fossil CO2 beside fuel",
+            &captured::beside_fuel(),
         ),
         full_size(
             "historian, inflow at and past its limit",
@@ -119,7 +128,7 @@ mod tests {
     use crate::questions::Question;
 
     /// The answers that each suite must meet, and how often at least.
-    const MET: [(&[&str], usize); 15] = [
+    const MET: [(&[&str], usize); 17] = [
         (
             &[
                 "A", "R1", "R2", "R3", "R4", "R5", "R7", "R9", "R10", "R12", "R13", "R14",
@@ -137,16 +146,23 @@ mod tests {
         (
             &[
                 "R1", "R2", "R3", "R4", "R5", "R6", "R7", "R8", "R9", "R10", "R11", "R12", "R13",
-                "R14", "R15",
+                "R14", "R15", "R16",
             ],
             15,
         ),
+        (
+            &[
+                "A", "R1", "R2", "R3", "R8", "R9", "R10", "R11", "R12", "R13", "R14", "R15", "R16",
+            ],
+            1,
+        ),
+        (&["A", "R10", "R16"], 18),
         (&["A", "R11"], 100),
         (&["A", "R10"], 100),
         (&["A"], 50),
         (&["A", "R12"], 100),
         (&["A", "R13"], 90),
-        (&["R10", "R11", "R12", "R13"], 30),
+        (&["R10", "R11", "R12", "R13", "R16"], 30),
         (&["A"], 300),
         (&["A"], 300),
         (&["A"], 10),

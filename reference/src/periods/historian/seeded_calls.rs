@@ -80,7 +80,7 @@ mod tests {
     #[test]
     fn tables_fit_in_every_way_each_and_both() {
         let mut met = BTreeSet::new();
-        for call in seeded_calls(40_000) {
+        for call in seeded_calls(60_000) {
             if let Ok(period) = read_period(&call.file) {
                 let needed = Tables::just_for(period.plants.len(), period.segments.len());
                 let needed = TableBytes::of(needed);

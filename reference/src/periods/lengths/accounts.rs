@@ -1,14 +1,14 @@
-//! Periods with numbers of every length that the accounts refuse: refusals 10 to 15.
+//! Periods with numbers of every length that the accounts refuse: refusals 10 to 16.
 
 use super::{period_of, with_just_enough_room, SEGMENTS};
 use crate::numbers::lengths::EACH_LENGTHS;
 use crate::numbers::number::LIMIT;
 use crate::numbers::writing::write_numbers;
 use crate::periods::account_limits::full_size::{
-    export_each, let_all_pass, set_grams, set_kg, set_line,
+    export_each, let_all_pass, set_captured, set_grams, set_kg, set_line,
 };
 use crate::periods::case::PeriodCase;
-use crate::periods::emissions::GRAMS_OF_A_KG;
+use crate::periods::classes::GRAMS_OF_A_KG;
 use crate::periods::records::{Owner, Period};
 use std::collections::BTreeSet;
 
@@ -24,6 +24,7 @@ pub fn refused_by_accounts() -> Vec<PeriodCase> {
         for lines in COUNTS_OF_LINES {
             let period = period_of(lengths, lines);
             cases.extend(gram_totals_passed(&period).iter().map(case_of));
+            cases.extend(captured_above_fuel(&period).iter().map(case_of));
             cases.extend(flows_refused(&period).iter().map(case_of));
             cases.extend(with_short_tables(&period));
         }
@@ -56,6 +57,16 @@ fn passed_by_first_and(line: usize, mut period: Period) -> Period {
     set_kg(&mut period, 1, OWNER, LIMIT);
     set_grams(&mut period, line, OWNER, 1);
     period
+}
+
+/// The last line says that a plant without fuel captured some: the first a kg, the other the most.
+fn captured_above_fuel(period: &Period) -> [Period; 2] {
+    let last = period.lines.len();
+    [(1, 1), (2, LIMIT)].map(|(plant, kg)| {
+        let mut period = period.clone();
+        set_captured(&mut period, last, plant, kg);
+        period
+    })
 }
 
 /// An inflow past its limit, an outflow over its inflow, and an emission without inflow.
@@ -114,6 +125,7 @@ mod tests {
         let period = period_of(lengths, 3);
         let mut cases: Vec<PeriodCase> = gram_totals_passed(&period)
             .iter()
+            .chain(&captured_above_fuel(&period))
             .chain(&flows_refused(&period))
             .map(case_of)
             .collect();
@@ -124,7 +136,7 @@ mod tests {
     #[test]
     fn short_numbers_have_a_byte_each() {
         // 19 numbers before the lines, and 5 in each of them. A first line at the limit has 5 bytes
-        // more; each of 5 exports and outflows at theirs has 4 more.
+        // more, a line of captured kg 1 or 5; each of 5 exports and outflows at theirs has 4 more.
         assert_eq!(
             refusals_of(&[1]),
             [
@@ -133,6 +145,8 @@ mod tests {
                 "R 10 2 29",
                 "R 10 3 29",
                 "R 10 3 34",
+                "R 16 1 35",
+                "R 16 2 39",
                 "R 11 3 54",
                 "R 12 2 34",
                 "R 13 3 34",
@@ -144,8 +158,9 @@ mod tests {
 
     #[test]
     fn long_numbers_have_up_to_five_bytes() {
-        // Before the lines 4 + 2 * (5 + 1 + 3) + 3 * (1 + 5 + 1) = 43 bytes, in a line 9. Without
-        // exports, each of 5 amounts has 4 bytes less, and so has the last line.
+        // Before the lines 4 + 2 * (5 + 1 + 3) + 3 * (1 + 5 + 1) = 43 bytes, in a line 9, with
+        // captured kg 6 or 10. Without exports, each of 5 amounts has 4 bytes less, and so has the
+        // last line.
         assert_eq!(
             refusals_of(&[5]),
             [
@@ -154,6 +169,8 @@ mod tests {
                 "R 10 2 53",
                 "R 10 3 61",
                 "R 10 3 62",
+                "R 16 1 67",
+                "R 16 2 71",
                 "R 11 3 70",
                 "R 12 2 70",
                 "R 13 3 46",
@@ -174,7 +191,7 @@ mod tests {
             let offset = words.nth(1).expect("a refusal has an offset");
             offsets.entry(number).or_default().insert(offset);
         }
-        assert_eq!(offsets.len(), 6);
+        assert_eq!(offsets.len(), 7);
         for (number, offsets) in offsets {
             assert!(offsets.len() >= AT_LEAST, "{number}: {}", offsets.len());
         }

@@ -6,6 +6,7 @@ pub mod reading;
 
 use super::accounts::{account, Tables};
 use super::case::PeriodCase;
+use super::classes::{CAPTURED_FOSSIL, ELECTRICITY, GRAMS_OF_A_KG};
 use super::outflows::choose_outflows;
 use super::records::{Line, Owner, Period, Plant, Segment};
 use crate::numbers::lengths::{numbers_by_turns, Lengths};
@@ -17,8 +18,6 @@ use std::collections::BTreeMap;
 /// How many plants and segments there are.
 const PLANTS: usize = 2;
 const SEGMENTS: usize = 3;
-/// The class electricity, which plants and segments may have.
-const ELECTRICITY: u64 = 4;
 
 /// Every refusal of such periods, first those of reading and then those of the accounts.
 pub fn refused_cases() -> Vec<PeriodCase> {
@@ -88,21 +87,24 @@ fn segment_to_store(own: usize) -> Segment {
     }
 }
 
-/// A line of a plant or of the store by turns; its quantity or its factor is 0, by turns of two.
+/// How many sorts of lines there are.
+const SORTS_OF_LINES: usize = 5;
+
+/// A line of each sort by turns: of a plant and of the store without factor, of both without
+/// quantity, and nothing captured by the plant.
 fn line_without_grams(index: usize, number: &mut impl FnMut(u64) -> u64) -> Line {
-    let owner = if index % 2 == 0 {
-        Owner::Plant(PLANTS)
-    } else {
-        Owner::Segment(SEGMENTS)
-    };
-    let (quantity, factor) = if index % 4 < 2 {
-        (number(LIMIT), 0)
-    } else {
-        (0, number(*Line::FACTORS.end()))
+    let (plant, store) = (Owner::Plant(PLANTS), Owner::Segment(SEGMENTS));
+    let any_factor = *Line::FACTORS.end();
+    let (owner, class, quantity, factor) = match index % SORTS_OF_LINES {
+        0 => (plant, ELECTRICITY, number(LIMIT), 0),
+        1 => (store, ELECTRICITY, number(LIMIT), 0),
+        2 => (plant, ELECTRICITY, 0, number(any_factor)),
+        3 => (store, ELECTRICITY, 0, number(any_factor)),
+        _ => (plant, CAPTURED_FOSSIL, 0, GRAMS_OF_A_KG),
     };
     Line {
         owner,
-        class: ELECTRICITY,
+        class,
         quantity,
         factor,
     }
@@ -127,7 +129,7 @@ mod tests {
     #[test]
     fn periods_are_accepted() {
         for lengths in EACH_LENGTHS {
-            for lines in [0, 1, 3, 128] {
+            for lines in [0, 1, 5, 128] {
                 let file = write_numbers(&period_of(lengths, lines).numbers());
                 let rows = account(&file, Tables::LARGE_ENOUGH);
                 assert!(rows.is_ok(), "{rows:?}");
@@ -143,7 +145,8 @@ mod tests {
             let refused = account(&file, Tables::LARGE_ENOUGH).expect_err("the file is refused");
             numbers.push(refused.reason as u8);
         }
-        let expected: Vec<u8> = (1..=13).flat_map(|number| [number, number]).collect();
+        let refusals = (1..=13).chain([16]);
+        let expected: Vec<u8> = refusals.flat_map(|number| [number, number]).collect();
         assert_eq!(numbers, expected);
     }
 

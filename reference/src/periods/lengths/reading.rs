@@ -10,7 +10,7 @@ use crate::periods::fields::fields_of;
 use crate::periods::records::{ANY_NUMBER, HEADER_NUMBERS};
 
 /// How many lines there are: few, and so many that their count has two bytes.
-const FEW_LINES: usize = 3;
+const FEW_LINES: usize = 5;
 const MANY_LINES: usize = 128;
 
 /// Few lines with each refusal at each number, many lines with each at some numbers, and both
@@ -38,19 +38,21 @@ fn places_in(numbers: &[u64]) -> [usize; 4] {
 /// Each refusal of the number at this place.
 fn refused_at(numbers: &[u64], place: usize) -> Vec<Vec<u8>> {
     let mut files = every_fault_at(numbers, place);
-    files.extend(past_its_field(numbers, place));
+    files.extend(outside_its_field(numbers, place));
     files
 }
 
-/// The number at the place is past what its field may be, by one and as far as can be; there is
-/// no such file if the field may be any number.
-fn past_its_field(numbers: &[u64], place: usize) -> Vec<Vec<u8>> {
+/// The number at the place is outside what its field may be, by one on each side and as far as can
+/// be; there is no such file if the field may be any number.
+fn outside_its_field(numbers: &[u64], place: usize) -> Vec<Vec<u8>> {
     let allowed = &fields_of(numbers)[place].allowed;
     if *allowed == ANY_NUMBER {
         return Vec::new();
     }
-    let past = [allowed.end() + 1, LIMIT].into_iter();
-    past.map(|value| write_numbers(&with_values(numbers, &[(place, value)])))
+    let below = allowed.start().checked_sub(1);
+    let outside = below.into_iter().chain([allowed.end() + 1, LIMIT]);
+    outside
+        .map(|value| write_numbers(&with_values(numbers, &[(place, value)])))
         .collect()
 }
 
@@ -85,7 +87,7 @@ mod tests {
                     assert_eq!(refused(&file), reason.at(place).with_offset(offset));
                 }
                 let reason = fields_of(&numbers)[place].reason;
-                for file in past_its_field(&numbers, place) {
+                for file in outside_its_field(&numbers, place) {
                     assert_eq!(refused(&file), reason.at(place).with_offset(offset));
                 }
             }
@@ -105,11 +107,20 @@ mod tests {
     }
 
     #[test]
-    fn fields_that_may_be_any_number_are_never_past() {
+    fn fields_that_may_be_any_number_are_never_outside() {
         let numbers = period_of(&[1], FEW_LINES).numbers();
-        let past = |&place: &usize| !past_its_field(&numbers, place).is_empty();
-        let places: Vec<usize> = (0..numbers.len()).filter(|place| !past(place)).collect();
-        // Two exports, three outflows, three quantities.
-        assert_eq!(places, [4, 7, 11, 14, 17, 22, 27, 32]);
+        let outside = |&place: &usize| !outside_its_field(&numbers, place).is_empty();
+        let places: Vec<usize> = (0..numbers.len()).filter(|place| !outside(place)).collect();
+        // Two exports, three outflows, five quantities.
+        assert_eq!(places, [4, 7, 11, 14, 17, 22, 27, 32, 37, 42]);
+    }
+
+    #[test]
+    fn factor_of_captured_fossil_is_refused_on_both_sides() {
+        let numbers = period_of(&[1], FEW_LINES).numbers();
+        let factor = numbers.len() - 1;
+        let expected = [999, 1001, LIMIT]
+            .map(|value| write_numbers(&with_values(&numbers, &[(factor, value)])));
+        assert_eq!(outside_its_field(&numbers, factor), expected);
     }
 }

@@ -14,6 +14,7 @@ impl FileToPrint for PrintedFile {
     /// Rows begin with those of plants, and no table can be too short.
     const LABELS: &'static [&'static str] = &[
         "P", "R1", "R2", "R3", "R4", "R5", "R6", "R7", "R8", "R9", "R10", "R11", "R12", "R13",
+        "R16",
     ];
 
     fn file(&self) -> &[u8] {

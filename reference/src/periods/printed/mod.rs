@@ -5,6 +5,7 @@ pub mod file;
 mod long_files;
 
 use super::account_limits::about_every_subject;
+use super::captured::all_files;
 use super::lengths::{refused_cases, some_for_each_reason};
 use super::paper::proved_files;
 use super::seeded::period_cases::{full_size_files, seeded_cases};
@@ -13,14 +14,14 @@ use crate::questions::Suite;
 use file::PrintedFile;
 
 /// How many seeded files there are.
-const SEEDED_FILES: usize = 220;
+const SEEDED_FILES: usize = 200;
 /// The seeds of these files and of the full-size ones.
 const SEED_OF_FILES: u64 = 0x5EED_000D;
 const SEED_OF_FULL_SIZE_FILES: u64 = 0x5EED_000E;
 /// How often the seeded files must meet rows and each refusal at least.
 const EACH_ANSWER_AT_LEAST: usize = 4;
 /// One period in this many is asked of those at the limits of the accounts.
-const PERIODS_TO_AN_ASKED_ONE: usize = 41;
+const PERIODS_TO_AN_ASKED_ONE: usize = 59;
 /// How many files with numbers of every length there are for each refusal.
 const LENGTHS_OF_EACH_REFUSAL: usize = 4;
 
@@ -40,6 +41,7 @@ pub fn printed_suites() -> Vec<Suite<PrintedFile>> {
             "rows, full-size at the limits of the accounts",
             files_at_limits(),
         ),
+        suite("rows, captured fossil CO2", all_files()),
         suite(
             "rows, refused behind numbers of every length",
             files_of_every_length(),

@@ -1,7 +1,8 @@
-//! Seeded lines, chosen with the inflow of each segment known.
+//! Seeded lines of what is emitted, chosen with the inflow of each segment known.
 
 use crate::numbers::number::LIMIT;
-use crate::periods::emissions::{GRAMS_OF_A_KG, LARGEST_GRAM_TOTAL};
+use crate::periods::classes::{emitting_classes_of, GRAMS_OF_A_KG};
+use crate::periods::emissions::LARGEST_GRAM_TOTAL;
 use crate::periods::records::{Line, Owner};
 use crate::seeded::Seeded;
 
@@ -25,7 +26,7 @@ pub enum Lines {
 }
 
 /// The most grams of an ordinary line: one owner may have all lines.
-const MOST_LINE_GRAMS: u64 = LARGEST_GRAM_TOTAL / *Line::COUNT.end();
+pub const MOST_LINE_GRAMS: u64 = LARGEST_GRAM_TOTAL / *Line::COUNT.end();
 /// The most units and the most grams a unit at a segment without inflow.
 const MOST_WHERE_NOTHING_FLOWS: u64 = 2000;
 
@@ -127,10 +128,10 @@ fn seeded_line(owner: Owner, most_grams: u64, seeded: &mut Seeded) -> Line {
     }
 }
 
-/// Any class that the owner may have.
+/// Any class that the owner may have and whose grams it emits.
 fn seeded_class(owner: Owner, seeded: &mut Seeded) -> u64 {
     let (kind, _) = owner.numbers();
-    seeded.within(Owner::classes(kind))
+    seeded.within(emitting_classes_of(kind))
 }
 
 /// Makes two lines the owner's, which add up to the limit and `more` grams

@@ -1,5 +1,6 @@
 //! Seeded periods, made to a wish.
 
+mod captured;
 pub mod damage;
 mod exports;
 mod lines;
@@ -10,6 +11,7 @@ pub mod wishes;
 
 use super::records::{Period, Plant};
 use crate::seeded::Seeded;
+use captured::Captured;
 use std::ops::RangeInclusive;
 use wishes::{Fractions, Wish};
 
@@ -18,7 +20,9 @@ pub fn seeded_period(wish: &Wish, seeded: &mut Seeded) -> Period {
     let ranges = wish.size.ranges();
     let plants = drawn_count(&ranges.plants, wish.exports.least_plants(), seeded);
     let segments = drawn_count(&ranges.segments, wish.routes.least_segments(), seeded);
-    let lines = drawn_count(&ranges.lines, wish.lines.least_lines(), seeded);
+    let least_lines = wish.lines.least_lines() + wish.captured.least_lines();
+    let lines = drawn_count(&ranges.lines, least_lines, seeded);
+    let captured_lines = drawn_captured_lines(wish, lines, seeded);
 
     let mut period = routes::seeded_routes(wish.routes, plants, segments, seeded);
     for plant in &mut period.plants {
@@ -26,8 +30,22 @@ pub fn seeded_period(wish: &Wish, seeded: &mut Seeded) -> Period {
     }
     exports::set_exports(wish.exports, &mut period, seeded);
     let inflows = outflows::set_outflows(wish.outflows, &mut period, seeded);
-    period.lines = lines::seeded_lines(wish.lines, lines, &inflows, plants, seeded);
+    let emitted_lines = lines - captured_lines;
+    period.lines = lines::seeded_lines(wish.lines, emitted_lines, &inflows, plants, seeded);
+    let lines = &mut period.lines;
+    captured::add_captured(wish.captured, captured_lines, lines, plants, seeded);
     period
+}
+
+/// How many of the lines are about captured CO2: as many as it needs, up to all that the others
+/// leave.
+fn drawn_captured_lines(wish: &Wish, lines: usize, seeded: &mut Seeded) -> usize {
+    if wish.captured == Captured::None {
+        return 0;
+    }
+    let least = wish.captured.least_lines();
+    let left = lines as u64 - wish.lines.least_lines();
+    seeded.within(least..=left) as usize
 }
 
 /// A count of the range, but not below the least.
@@ -173,12 +191,19 @@ mod tests {
         let wish = lines(Lines::ToLimit);
         assert!(some_segment(&wish, |row| row.emission == LIMIT));
         assert!(some_plant(&wish, |row| row.associated >= LIMIT));
-        let wish = lines(Lines::WithoutGrams);
+        let wish = Wish {
+            captured: Captured::NoKg,
+            ..lines(Lines::WithoutGrams)
+        };
         assert!(!some_plant(&wish, |row| row.associated > 0));
         let wish = lines(Lines::Any);
         assert!(some_plant(&wish, |row| row.units > 0 && row.associated > 0));
         assert!(some_plant(&wish, |row| row.deficit > 0));
-        let period = seeded_period(&lines(Lines::None), &mut Seeded::new(1));
+        let wish = Wish {
+            captured: Captured::None,
+            ..lines(Lines::None)
+        };
+        let period = seeded_period(&wish, &mut Seeded::new(1));
         assert!(period.lines.is_empty());
     }
 

@@ -1,6 +1,7 @@
 //! Seeded cases of the whole of the paper: about half accepted, the others
 //! refused for every reason in turn.
 
+use super::captured::Captured;
 use super::damage::{damaged, Damage};
 use super::exports::Exports;
 use super::lines::Lines;
@@ -10,6 +11,7 @@ use super::seeded_period;
 use super::wishes::{Size, Wish, ACCEPTED, ORDINARY};
 use crate::numbers::writing::write_numbers;
 use crate::periods::accounts::Tables;
+use crate::periods::captured::small_cases;
 use crate::periods::case::PeriodCase;
 use crate::periods::paper::proved_cases;
 use crate::periods::records::Period;
@@ -34,7 +36,7 @@ enum Goal {
 }
 
 /// Goals that are refused, each reason at least once.
-const REFUSED: [Goal; 22] = [
+const REFUSED: [Goal; 25] = [
     Goal::Damaged(Damage::CutShort),
     Goal::Damaged(Damage::NotShortest),
     Goal::Damaged(Damage::TooLarge),
@@ -50,6 +52,19 @@ const REFUSED: [Goal; 22] = [
     }),
     Goal::Refused(Wish {
         lines: Lines::FarPast,
+        ..ORDINARY
+    }),
+    Goal::Refused(Wish {
+        captured: Captured::OnePast,
+        ..ORDINARY
+    }),
+    Goal::Refused(Wish {
+        captured: Captured::FarPast,
+        ..ORDINARY
+    }),
+    Goal::Refused(Wish {
+        outflows: Outflows::OneOver,
+        captured: Captured::OnePast,
         ..ORDINARY
     }),
     Goal::Refused(Wish {
@@ -113,6 +128,7 @@ const SEVERAL_LINES: [Lines; 4] = [
     Lines::WhereNothingFlows,
     Lines::WhereNothingFlows,
 ];
+const SEVERAL_CAPTURED: [Captured; 3] = [Captured::Within, Captured::OnePast, Captured::FarPast];
 const SEVERAL_DAMAGES: [Damage; 4] = [
     Damage::BytesAfter,
     Damage::CutShort,
@@ -148,9 +164,10 @@ const ANY_LENGTH: [Fit; 4] = [Fit::Just, Fit::Longer, Fit::OneShort, Fit::Empty]
 /// How many numbers too long a table is at most.
 const MOST_TOO_LONG: usize = 20;
 
-/// The paper's own cases, then seeded ones without end.
+/// The paper's own cases, small ones about captured fossil CO2, then seeded ones without end.
 pub fn period_cases(seed: u64) -> impl Iterator<Item = PeriodCase> {
-    proved_cases().into_iter().chain(seeded_cases(seed))
+    let stated = proved_cases().into_iter().chain(small_cases());
+    stated.chain(seeded_cases(seed))
 }
 
 /// Seeded cases without end.
@@ -216,6 +233,7 @@ fn wish_for(goal: Goal, size: Size, seeded: &mut Seeded) -> Wish {
             exports: seeded.pick(&SEVERAL_EXPORTS),
             outflows: seeded.pick(&SEVERAL_OUTFLOWS),
             lines: seeded.pick(&SEVERAL_LINES),
+            captured: seeded.pick(&SEVERAL_CAPTURED),
             ..ORDINARY
         },
     }
@@ -281,6 +299,9 @@ mod tests {
     }
 
     fn wanted_of_wish(wish: &Wish) -> Reason {
+        if let Captured::OnePast | Captured::FarPast = wish.captured {
+            return Reason::CapturedAboveFuel;
+        }
         match (wish.lines, wish.exports, wish.outflows) {
             (Lines::OnePast | Lines::FarPast, _, _) => Reason::GramTotal,
             (_, Exports::OnePast | Exports::FarPast, _) => Reason::InflowTooLarge,
@@ -307,8 +328,9 @@ mod tests {
 
     #[test]
     fn cases_of_the_paper_come_first() {
-        let first: Vec<PeriodCase> = period_cases(9).take(proved_cases().len()).collect();
-        assert_eq!(first, proved_cases());
+        let stated = [proved_cases(), small_cases()].concat();
+        let first: Vec<PeriodCase> = period_cases(9).take(stated.len()).collect();
+        assert_eq!(first, stated);
     }
 
     #[test]
@@ -327,7 +349,7 @@ mod tests {
             *counts.entry(label_of(&case.answer())).or_default() += 1;
         }
         assert!(counts["A"] >= ACCEPTED_AT_LEAST, "{counts:?}");
-        for number in 1..=15 {
+        for number in 1..=16 {
             assert!(counts[&format!("R{number}")] >= AT_LEAST, "{counts:?}");
         }
     }
@@ -344,7 +366,7 @@ mod tests {
         }
         assert_eq!(places[&4], BTreeSet::from([0]));
         assert_eq!(places[&5], BTreeSet::from([1, 2, 3]));
-        for number in (1..=3).chain(6..=15) {
+        for number in (1..=3).chain(6..=16) {
             assert!(
                 places[&number].len() >= AT_LEAST,
                 "{number}: {:?}",

@@ -1,5 +1,6 @@
 //! What seeded periods are to be like: each subject of the paper has its own knob.
 
+use super::captured::Captured;
 use super::exports::Exports;
 use super::lines::Lines;
 use super::outflows::Outflows;
@@ -17,6 +18,7 @@ pub struct Wish {
     pub outflows: Outflows,
     pub fractions: Fractions,
     pub lines: Lines,
+    pub captured: Captured,
 }
 
 impl Wish {
@@ -97,10 +99,11 @@ pub const ORDINARY: Wish = Wish {
     outflows: Outflows::BitBelow,
     fractions: Fractions::Mixed,
     lines: Lines::Any,
+    captured: Captured::Within,
 };
 
 /// Wishes that are accepted, every knob's settings among them.
-pub const ACCEPTED: [Wish; 17] = [
+pub const ACCEPTED: [Wish; 20] = [
     ORDINARY,
     Wish {
         routes: Routes::Scattered,
@@ -136,11 +139,13 @@ pub const ACCEPTED: [Wish; 17] = [
     Wish {
         exports: Exports::Nothing,
         lines: Lines::None,
+        captured: Captured::None,
         ..ORDINARY
     },
     Wish {
         exports: Exports::SomeNothing,
         lines: Lines::WithoutGrams,
+        captured: Captured::NoKg,
         ..ORDINARY
     },
     Wish {
@@ -180,6 +185,20 @@ pub const ACCEPTED: [Wish; 17] = [
         exports: Exports::ToLimit,
         outflows: Outflows::All,
         lines: Lines::ToLimit,
+        ..ORDINARY
+    },
+    Wish {
+        captured: Captured::None,
+        ..ORDINARY
+    },
+    Wish {
+        captured: Captured::AllFuel,
+        ..ORDINARY
+    },
+    Wish {
+        routes: Routes::Scattered,
+        lines: Lines::ToLimit,
+        captured: Captured::AllFuel,
         ..ORDINARY
     },
 ];

@@ -1,8 +1,9 @@
 //! Files whose bytes are cut, changed, followed by others, or noise from the start.
 
 use super::whole_files::{longest, small_and_middle, LARGE_VALUES, SMALLEST};
-use crate::file_bytes::{self, cuts_of, every_value, tails_of_bytes};
+use crate::file_bytes::{self, cuts_of, every_value, tails_of_bytes, telling_values};
 use crate::numbers::writing::write_numbers;
+use crate::periods::captured::all_captured;
 use crate::periods::paper::{whole_period, WHOLE_PERIOD};
 
 /// Every cut of small and middle-size whole files.
@@ -14,13 +15,16 @@ pub fn every_cut() -> Vec<Vec<u8>> {
     files
 }
 
-/// Each byte of small whole files changed to each of the 256 values.
+/// Each byte of small whole files changed to each of the 256 values, and of one with captured CO2
+/// to some.
 pub fn each_byte_changed() -> Vec<Vec<u8>> {
     let mut files = Vec::new();
     for numbers in [&WHOLE_PERIOD[..], &LARGE_VALUES] {
         let whole = write_numbers(numbers);
         files.extend(file_bytes::each_byte_changed(&whole, every_value));
     }
+    let changed = file_bytes::each_byte_changed(&all_captured(), telling_values);
+    files.extend(changed);
     files
 }
 

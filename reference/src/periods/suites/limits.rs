@@ -2,12 +2,15 @@
 
 use super::whole_files::of_counts;
 use crate::numbers::writing::{with_values, write_numbers};
+use crate::periods::classes::{CAPTURED_FOSSIL, GRAMS_OF_A_KG};
 use crate::periods::fields::fields_of;
 use crate::periods::records::{Line, Plant, Segment, HEADER_NUMBERS};
 use std::ops::{Range, RangeInclusive};
 
 /// Lines at which the fields of a file with many lines are changed.
 const LINES_CHANGED: [usize; 6] = [1, 2, 255, 256, 511, 512];
+/// Lines of them that say what was captured.
+const LINES_CAPTURED: [usize; 2] = [1, 512];
 
 /// Counts at and past their limits, and the same for every field of the largest files.
 pub fn at_and_one_past() -> Vec<Vec<u8>> {
@@ -20,12 +23,24 @@ pub fn at_and_one_past() -> Vec<Vec<u8>> {
 
     let many_lines = of_counts(1, 1, *Line::COUNT.end());
     let first_line = many_lines.len() - *Line::COUNT.end() as usize * Line::NUMBERS;
-    for line in LINES_CHANGED {
-        let record = first_line + (line - 1) * Line::NUMBERS;
+    let record_of = |line: usize| first_line + (line - 1) * Line::NUMBERS;
+    for record in LINES_CHANGED.map(record_of) {
         let places = record..record + Line::NUMBERS;
         files.extend(fields_around_limits(&many_lines, places));
     }
+    for record in LINES_CAPTURED.map(record_of) {
+        files.extend(captured_around_limits(&many_lines, record));
+    }
     files
+}
+
+/// The line that starts at this place says that nothing was captured, and its class, quantity and
+/// factor are around their limits.
+fn captured_around_limits(numbers: &[u64], record: usize) -> Vec<Vec<u8>> {
+    let class = record + Line::CLASS_AT;
+    let factor = record + Line::FACTOR_AT;
+    let values = [(class, CAPTURED_FOSSIL), (factor, GRAMS_OF_A_KG)];
+    fields_around_limits(&with_values(numbers, &values), class..factor + 1)
 }
 
 /// Files with just as many records as each combination of counts says.

@@ -7,6 +7,7 @@ mod limits;
 mod values;
 pub mod whole_files;
 
+use super::captured::all_files;
 use super::lengths::reading::refused_by_reading;
 use super::paper::proved_files;
 use super::question::PeriodFile;
@@ -37,6 +38,7 @@ pub fn reading_suites() -> Vec<Suite<PeriodFile>> {
             "readings, limits at and one past",
             limits::at_and_one_past(),
         ),
+        suite("readings, captured fossil CO2", all_files()),
         suite("readings, bytes after whole files", bytes::bytes_after()),
         suite(
             "readings, refused behind numbers of every length",
@@ -65,7 +67,7 @@ mod tests {
     use crate::refusal::offsets_checked::assert_offset_of_number;
 
     /// The answers that each suite must meet, and how often at least.
-    const MET: [(&[&str], usize); 12] = [
+    const MET: [(&[&str], usize); 13] = [
         (&["A", "R1", "R2", "R3", "R4", "R5", "R7", "R9"], 1),
         (&["R1"], 200),
         (PeriodFile::LABELS, 400),
@@ -73,6 +75,7 @@ mod tests {
         (&["A", "R1", "R3", "R4", "R5", "R6", "R7", "R8", "R9"], 15),
         (&["A", "R7", "R8"], 1000),
         (&["A", "R3", "R5", "R6", "R7", "R8"], 40),
+        (&["A", "R1", "R2", "R3", "R8", "R9"], 1),
         (&["R9"], 1000),
         (&["R1", "R2", "R3", "R4", "R5", "R6", "R7", "R8", "R9"], 15),
         (&["A", "R1", "R2", "R3", "R6", "R7", "R8", "R9"], 60),

@@ -1,6 +1,7 @@
 //! Whole files, as their numbers, that the suites cut, change and damage.
 
 use crate::numbers::number::LIMIT;
+use crate::periods::classes::classes_of;
 use crate::periods::paper::WHOLE_PERIOD;
 use crate::periods::records::{Line, Owner, Plant, Segment, EDITION};
 
@@ -11,7 +12,7 @@ pub const SMALLEST: [u64; 10] = [
     6, 0, 0,
 ];
 
-/// One record of each kind, every value the largest it can be.
+/// One record of each kind, every value the largest it can be; a larger class has but one factor.
 pub const LARGE_VALUES: [u64; 15] = [
     1,
     1,
@@ -32,11 +33,11 @@ pub const LARGE_VALUES: [u64; 15] = [
 
 /// Three plants, four segments with a store among them, and lines of every class that each
 /// kind of owner can have.
-pub const EVERY_CLASS: [u64; 90] = [
+pub const EVERY_CLASS: [u64; 95] = [
     1,
     3,
     4,
-    13, //
+    14, //
     5000,
     1,
     250_000, //
@@ -77,7 +78,7 @@ pub const EVERY_CLASS: [u64; 90] = [
     3,
     3,
     128,
-    0, //
+    127, //
     1,
     2,
     4,
@@ -122,7 +123,12 @@ pub const EVERY_CLASS: [u64; 90] = [
     1,
     8,
     LIMIT,
+    3, //
+    0,
     3,
+    9,
+    16,
+    1000,
 ];
 
 /// More plants than segments.
@@ -182,7 +188,7 @@ pub fn longest() -> Vec<u64> {
         numbers.extend([Segment::STORE - 1, LIMIT, segments]);
     }
     numbers.extend([Segment::STORE, LIMIT, 0]);
-    let classes = Owner::classes(Owner::SEGMENT);
+    let classes = classes_of(Owner::SEGMENT);
     for _ in 0..lines {
         let factor = *Line::FACTORS.end();
         numbers.extend([Owner::SEGMENT, segments, *classes.end(), LIMIT, factor]);
@@ -220,7 +226,7 @@ mod tests {
         let file = write_numbers(&EVERY_CLASS);
         let lines = read_period(&file).expect("the file is whole").lines;
         for kind in Owner::KINDS {
-            for class in Owner::classes(kind) {
+            for class in classes_of(kind) {
                 let found = |line: &Line| line.owner.numbers().0 == kind && line.class == class;
                 assert!(lines.iter().any(found), "owner kind {kind}, class {class}");
             }

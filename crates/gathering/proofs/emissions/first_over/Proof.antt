@@ -11,12 +11,12 @@ use Rattle.gathering.proofs.emissions.first_over.Tie as tie
 returns : tie.Need-returns
 returns c =
     let a = c .before .before .args in
-    rw (le-ltb mostGrams (a .total .grams) (c .if1 .taken), and-false (eqb (a .over .place) 0)) refl
+    rw (le-ltb mostGrams (a .total .added) (c .if1 .taken), and-false (eqb (a .over .place) 0)) refl
 
 returns-2 : tie.Need-returns-2
 returns-2 c =
     let a = c .before .before .before .before .args in
-    rw (eq-eqb (a .over .place) 0 (c .if2 .taken), lt-ltb mostGrams (a .total .grams) (omega (arith, c .before .before .if1 .left))) refl
+    rw (eq-eqb (a .over .place) 0 (c .if2 .taken), lt-ltb mostGrams (a .total .added) (omega (arith, c .before .before .if1 .left))) refl
 
 returns-3 : tie.Need-returns-3
 returns-3 c =

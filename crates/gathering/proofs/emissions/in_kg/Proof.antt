@@ -1,42 +1,52 @@
 -- `gathering::emissions::in_kg` meets its contract: before each turn the owners' totals so far stand in kg. Assumes nothing.
 use Prim.Native.Nat.{ℕ, _+_, _-_, _≤_}
-use mathlib.Core.Path.{_≡_}
+use mathlib.Core.Path.{_≡_, _∙_}
 use native.Mathlib.Omega.{arith}
+use lib.ListN.{getD}
 use Rattle.records.specs.Segments.{mostSegments}
-use Rattle.accounts.specs.Emissions.{inKg}
-use Rattle.gathering.specs.Inside.{gramsAt}
+use Rattle.accounts.specs.Emissions.{lessCaptured}
 use Rattle.gathering.proofs.Listing.{Filling, filling-start, filling-on}
 use Rattle.gathering.proofs.emissions.in_kg.Statement.{statement}
 use Rattle.gathering.proofs.emissions.in_kg.Tie as tie
 
 abbrev Inv-loop : tie.InvT-loop
-Inv-loop first count totals kg₀ o₀ kg o = (o ≤ count) × Filling 0 mostSegments (λ (q : ℕ). inKg (gramsAt totals (first + q))) kg o
+Inv-loop added captured first count kg₀ o₀ kg o =
+    (o ≤ count) × Filling 0 mostSegments (λ (q : ℕ). lessCaptured (getD added (first + q) 0) (getD captured (first + q) 0)) kg o
 
 abbrev μ-loop : tie.MeasureT-loop
-μ-loop first count totals kg₀ o₀ kg o = count - o
+μ-loop added captured first count kg₀ o₀ kg o = count - o
 
 loop-holds : tie.Need-loop-holds Inv-loop μ-loop
-loop-holds c = (omega arith, filling-start 0 mostSegments _)
+loop-holds c = (omega arith, c .pre .1 .1 .1 ∙ filling-start 0 mostSegments _)
 
-add-total : tie.Need-add-total Inv-loop μ-loop
-add-total c = omega arith
+add-less-captured : tie.Need-add-less-captured Inv-loop μ-loop
+add-less-captured c = omega arith
 
-mul-total : tie.Need-mul-total Inv-loop μ-loop
-mul-total c = omega arith
+mul-less-captured : tie.Need-mul-less-captured Inv-loop μ-loop
+mul-less-captured c = omega arith
 
-array-copy-out-total : tie.Need-array-copy-out-total Inv-loop μ-loop
-array-copy-out-total c = omega arith
+element-copy-out-less-captured : tie.Need-element-copy-out-less-captured Inv-loop μ-loop
+element-copy-out-less-captured c = omega arith
 
-kg-requires : tie.Need-kg-requires Inv-loop μ-loop
-kg-requires c κs =
-    let start = c .before .before .before in
-    start .pre .0 (start .args .first + c .before .before .loop .o)
+add-less-captured-2 : tie.Need-add-less-captured-2 Inv-loop μ-loop
+add-less-captured-2 c = omega arith
+
+mul-less-captured-2 : tie.Need-mul-less-captured-2 Inv-loop μ-loop
+mul-less-captured-2 c = omega arith
+
+element-copy-out-less-captured-2 : tie.Need-element-copy-out-less-captured-2 Inv-loop μ-loop
+element-copy-out-less-captured-2 c = omega arith
+
+less-captured-requires : tie.Need-less-captured-requires Inv-loop μ-loop
+less-captured-requires c κs =
+    let turn = c .before .before in
+    turn .before .before .pre .0 (turn .before .before .args .first + turn .before .loop .o)
 
 mul-kg : tie.Need-mul-kg Inv-loop μ-loop
 mul-kg c = omega arith
 
-array-write-kg : tie.Need-array-write-kg Inv-loop μ-loop
-array-write-kg c = omega arith
+element-write-kg : tie.Need-element-write-kg Inv-loop μ-loop
+element-write-kg c = omega arith
 
 add-o : tie.Need-add-o Inv-loop μ-loop
 add-o c = omega arith
@@ -46,8 +56,8 @@ loop-less c = omega arith
 
 loop-again : tie.Need-loop-again Inv-loop μ-loop
 loop-again c =
-    let l = c .before .before .before .loop in
-    (omega arith, filling-on 0 mostSegments _ (l .kg) (l .o) _ (l .inv .1) (omega arith) (c .kg .ensures))
+    let l = c .before .before .before .before .loop in
+    (omega arith, filling-on 0 mostSegments _ (l .kg) (l .o) _ (l .inv .1) (omega arith) (c .less-captured .ensures))
 
 returns : tie.Need-returns Inv-loop μ-loop
 returns c =
@@ -62,12 +72,15 @@ in-kg-spec =
     Inv-loop
     μ-loop
     loop-holds
-    add-total
-    mul-total
-    array-copy-out-total
-    kg-requires
+    add-less-captured
+    mul-less-captured
+    element-copy-out-less-captured
+    add-less-captured-2
+    mul-less-captured-2
+    element-copy-out-less-captured-2
+    less-captured-requires
     mul-kg
-    array-write-kg
+    element-write-kg
     add-o
     loop-less
     loop-again

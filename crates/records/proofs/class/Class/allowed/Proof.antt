@@ -1,11 +1,11 @@
--- `records::class::Class::allowed` meets its contract: the table's rule at the row of the code, and no row elsewhere. Assumes nothing.
-use Prim.Native.Nat.{ℕ}
+-- `records::class::Class::allowed` meets its contract: what the row of the code says of the owner's kind, and no elsewhere. Assumes nothing.
 use mathlib.Core.Logic.{inl, inr}
-use mathlib.Core.Path.{sym, _∙_, ap}
+use mathlib.Core.Path.{ap, sym, _∙_}
 use native.Mathlib.Omega.{arith}
 use borrow.Author.Needs.{needs}
-use Rattle.records.specs.Classes.{classes, classAllowed}
-use Rattle.records.proofs.Classes.{plant-row, segment-row, noClass, neither-owner, no-row}
+use Rattle.records.specs.declared.class.Class.{Class}
+use Rattle.records.specs.Classes.{classes, classOf}
+use Rattle.records.proofs.Classes.{row-of, allows-plant, allows-segment, allows-neither, not-allowed}
 use Rattle.records.proofs.class.Class.allowed.Statement.{statement}
 use Rattle.records.proofs.class.Class.allowed.Tie as tie
 
@@ -19,23 +19,27 @@ returns : tie.Need-returns
 unfolding classes
 returns c =
     let a = c .before .before .before .before .args in
-    plant-row (a .code) noClass (omega arith) (omega arith) ∙ ap (λ (ownerKind : ℕ). classAllowed ownerKind (a .code)) (sym (c .match .keys1))
+    ap (λ (class : Class). class .plant) (row-of (a .code) (omega arith) (omega arith))
+    ∙ allows-plant (classOf (a .code)) (a .owner-kind) (c .match .keys1)
 
 returns-2 : tie.Need-returns-2
 unfolding classes
 returns-2 c =
     let a = c .before .before .before .before .args in
-    segment-row (a .code) noClass (omega arith) (omega arith) ∙ ap (λ (ownerKind : ℕ). classAllowed ownerKind (a .code)) (sym (c .match .keys2))
+    ap (λ (class : Class). class .segment) (row-of (a .code) (omega arith) (omega arith))
+    ∙ allows-segment (classOf (a .code)) (a .owner-kind) (c .match .keys2)
 
 returns-3 : tie.Need-returns-3
-returns-3 c = let a = c .before .before .before .before .args in sym (neither-owner (a .owner-kind) (a .code) (c .match .rest .0 .1) (c .match .rest .1))
+returns-3 c =
+    let a = c .before .before .before .before .args in
+    allows-neither (classOf (a .code)) (a .owner-kind) (c .match .rest .0 .1) (c .match .rest .1)
 
 returns-4 : tie.Need-returns-4
-returns-4 c = let a = c .before .args in sym (no-row (a .owner-kind) (a .code) (inl (omega arith)))
+returns-4 c = let a = c .before .args in sym (not-allowed (a .owner-kind) (a .code) (inl (omega arith)))
 
 returns-5 : tie.Need-returns-5
 unfolding classes
-returns-5 c = let a = c .before .before .args in sym (no-row (a .owner-kind) (a .code) (inr (omega arith)))
+returns-5 c = let a = c .before .before .args in sym (not-allowed (a .owner-kind) (a .code) (inr (omega arith)))
 
 pub allowed-spec : {M : Type 1} → statement M
 allowed-spec =

@@ -12,20 +12,27 @@ use Rattle.records.proofs.RecordFields.{lineTest, line-tested, line-any
 use Rattle.records.proofs.line.Line.allows.Statement.{statement}
 use Rattle.records.proofs.line.Line.allows.Tie as tie
 
+-- the owner's kind and the class, as far as they stand before the field
+abbrev kind : tie.Start → ℕ
+kind s = getD (take (s .args .field) (s .args .t3)) 0 0
+
+abbrev class : tie.Start → ℕ
+class s = getD (take (s .args .field) (s .args .t3)) 2 0
+
 -- the test at an index of the record, by the numbers before it
 tested :
     (s : tie.Start) (index : ℕ) → s .args .field ≡ index → index ≤ lineFields →
     allowsNext (onward (line (s .args .counts)) (take (s .args .field) (s .args .t3))) (s .args .value)
-    ≡ lineTest (s .args .counts) (getD (take (s .args .field) (s .args .t3)) 0 0) index (s .args .value)
+    ≡ lineTest (s .args .counts) (kind s) (class s) index (s .args .value)
 tested s index is few =
     let a = s .args in
     let before = take (a .field) (a .t3) in
     line-tested (a .counts) before (a .value)
-    ∙ ap (λ (n : ℕ). lineTest (a .counts) (getD before 0 0) n (a .value)) (length-take-le (a .field) (a .t3) (omega (arith, is, s .good)) ∙ is)
+    ∙ ap (λ (n : ℕ). lineTest (a .counts) (kind s) (class s) n (a .value)) (length-take-le (a .field) (a .t3) (omega (arith, is, s .good)) ∙ is)
 
--- behind the first number, that number is the owner's kind
-kind-is : (s : tie.Start) → 0 < s .args .field → getD (take (s .args .field) (s .args .t3)) 0 0 ≡ getD (s .args .t3) 0 0
-kind-is s some = getD-take (s .args .field) (s .args .t3) 0 0 some
+-- a number before the field is the one at its index: the owner's kind is the first, the class the third
+earlier : (s : tie.Start) (index : ℕ) → index < s .args .field → getD (take (s .args .field) (s .args .t3)) index 0 ≡ getD (s .args .t3) index 0
+earlier s index before = getD-take (s .args .field) (s .args .t3) index 0 before
 
 owner-kind-allowed-requires : tie.Need-owner-kind-allowed-requires
 owner-kind-allowed-requires c κs = search needs
@@ -42,6 +49,9 @@ array-read-allowed c = search needs
 allowed-requires : tie.Need-allowed-requires
 allowed-requires c κs = search needs
 
+array-read-factor-allowed : tie.Need-array-read-factor-allowed
+array-read-factor-allowed c = search needs
+
 factor-allowed-requires : tie.Need-factor-allowed-requires
 factor-allowed-requires c κs = search needs
 
@@ -53,17 +63,21 @@ returns-2 c =
     let s = c .before .before in
     let here = c .before .match .keys2 in
     c .owner-allowed .ensures
-    ∙ sym (tested s 1 here (omega arith) ∙ ap (λ (k : ℕ). lineTest (s .args .counts) k 1 (s .args .value)) (kind-is s (omega (arith, here))))
+    ∙ sym (tested s 1 here (omega arith) ∙ ap (λ (k : ℕ). lineTest (s .args .counts) k (class s) 1 (s .args .value)) (earlier s 0 (omega (arith, here))))
 
 returns-3 : tie.Need-returns-3
 returns-3 c =
     let s = c .before .before in
     let here = c .before .match .keys3 in
     c .allowed .ensures
-    ∙ sym (tested s 2 here (omega arith) ∙ ap (λ (k : ℕ). lineTest (s .args .counts) k 2 (s .args .value)) (kind-is s (omega (arith, here))))
+    ∙ sym (tested s 2 here (omega arith) ∙ ap (λ (k : ℕ). lineTest (s .args .counts) k (class s) 2 (s .args .value)) (earlier s 0 (omega (arith, here))))
 
 returns-4 : tie.Need-returns-4
-returns-4 c = c .factor-allowed .ensures ∙ sym (tested (c .before .before) 4 (c .before .match .keys4) (omega arith))
+returns-4 c =
+    let s = c .before .before in
+    let here = c .before .match .keys4 in
+    c .factor-allowed .ensures
+    ∙ sym (tested s 4 here (omega arith) ∙ ap (λ (k : ℕ). lineTest (s .args .counts) (kind s) k 4 (s .args .value)) (earlier s 2 (omega (arith, here))))
 
 returns-5 : tie.Need-returns-5
 returns-5 c =
@@ -74,7 +88,7 @@ returns-5 c =
     let size = length-take (a .field) (a .t3) in
     sym
     (line-tested (a .counts) before (a .value)
-    ∙ line-any (a .counts) (getD before 0 0) (length before) (a .value)
+    ∙ line-any (a .counts) (getD before 0 0) (getD before 2 0) (length before) (a .value)
     (λ e. none .0 .0 .0 .1 (omega (arith, size, e, s .good)))
     (λ e. none .0 .0 .1 (omega (arith, size, e, s .good)))
     (λ e. none .0 .1 (omega (arith, size, e, s .good)))
@@ -89,6 +103,7 @@ allows-spec =
     owner-allowed-requires
     array-read-allowed
     allowed-requires
+    array-read-factor-allowed
     factor-allowed-requires
     returns
     returns-2
