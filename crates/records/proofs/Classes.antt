@@ -47,6 +47,11 @@ not-found (class ∷ rest) first code t outside =
     rw (ne-eqb (class .code) code (λ e. ⊎-elim (λ p. omega (arith, p)) (λ p. omega (arith, p)) outside))
     (not-found rest (suc first) code (in-place .1) (⊎-elim (λ p. inl (omega (arith, p))) (λ p. inr (omega (arith, p))) outside))
 
+-- the code of a row
+pub code-at : (row : ℕ) → row < length classes → getD classes row noClass .code ≡ firstCode + row
+unfolding inOrder classes
+code-at row h = eqb→eq (getD classes row noClass .code) (firstCode + row) (at-row inOrder firstCode classes noClass tt row h)
+
 -- the row of a code that the table has
 pub row-of : (code : ℕ) → firstCode ≤ code → code ≤ length classes → getD classes (code - firstCode) noClass ≡ classOf code
 unfolding inOrder classes classOf

@@ -21,38 +21,38 @@ pub struct Class {
 impl Class {
     // How many rows the table has.
     pub const ROWS: usize = 9;
-    // The codes of its first row and its last.
-    pub const FIRST: u64 = 1;
-
+    // The code of its last row.
     pub const LAST: u64 = Class::ROWS as u64;
     // The largest factor, and the only one of what is captured, whose quantity is CO2 in kg (rule 3.3).
     pub const LARGEST_FACTOR: u64 = 1_000_000_000;
 
     pub const GRAMS_IN_KG: u64 = 1000;
 
-    // The row of a code; if the table has none, a row without owners, whose grams count nowhere (rules 3.2 and 3.4).
+    // The first row with a code; if the table has none, a row without owners, whose grams count nowhere (rules 3.2 and 3.4). The compiler unrolls the
+    // search and keeps of the table what the caller asks for: finding a row by its index takes longer, since the table is copied first.
     pub fn of(code: u64) -> Class
         ensures { λ r. ⌜ ClassPromise code r ⌝ }
     {
-        match code {
-            Class::FIRST..=Class::LAST => CLASSES[(code - Class::FIRST) as usize],
-            _ => Class::none(),
+        let classes = CLASSES;
+        let mut row = 0;
+        while row < Class::ROWS {
+            let class = classes[row];
+            if class.code as u64 == code {
+                return class;
+            }
+            row += 1;
         }
+        Class::none()
     }
 
-    // Whether the table allows a class to an owner of this kind (rule 3.2). Here and below the row is looked up in place, which takes half as long.
+    // Whether the table allows a class to an owner of this kind (rule 3.2).
     pub(crate) fn allowed(code: u64, owner_kind: u64) -> bool
         ensures { λ r. ⌜ r ≡ classAllowed «owner_kind» code ⌝ }
     {
-        match code {
-            Class::FIRST..=Class::LAST => {
-                let class = CLASSES[(code - Class::FIRST) as usize];
-                match owner_kind {
-                    Plant::OWNER_KIND => class.plant,
-                    Segment::OWNER_KIND => class.segment,
-                    _ => false,
-                }
-            }
+        let class = Class::of(code);
+        match owner_kind {
+            Plant::OWNER_KIND => class.plant,
+            Segment::OWNER_KIND => class.segment,
             _ => false,
         }
     }
@@ -61,16 +61,11 @@ impl Class {
     pub(crate) fn factor_allowed(code: u64, factor: u64) -> bool
         ensures { λ r. ⌜ r ≡ factorAllowed code factor ⌝ }
     {
-        match code {
-            Class::FIRST..=Class::LAST => {
-                let class = CLASSES[(code - Class::FIRST) as usize];
-                if class.captured {
-                    return factor == Class::GRAMS_IN_KG;
-                }
-                factor <= Class::LARGEST_FACTOR
-            }
-            _ => factor <= Class::LARGEST_FACTOR,
+        let class = Class::of(code);
+        if class.captured {
+            return factor == Class::GRAMS_IN_KG;
         }
+        factor <= Class::LARGEST_FACTOR
     }
 
     // The row for codes that the table does not have.
