@@ -7,8 +7,8 @@ use native.Mathlib.Decide.{ℕ-discrete}
 use native.Mathlib.Numerals.{add-one}
 use native.Mathlib.Omega.{arith}
 use lib.Dec.{ltb, eqb}
-use lib.ListN.{length, take, drop, getD, set, length-append}
-use lib.Seq.{take-suc, take-append-seam, drop-cons, getD-at, getD-set-same, append-snoc}
+use lib.ListN.{length, take, drop, getD, length-append}
+use lib.Seq.{take-suc, take-append-seam, drop-cons, getD-at, append-snoc}
 use borrow.Author.Tests.{eq-eqb, ne-eqb}
 use Rattle.fields.specs.declared.reason.Reason.the-variants.{TooManyGrams}
 use Rattle.fields.specs.declared.spot.Spot.{Spot}
@@ -26,9 +26,8 @@ use Rattle.records.specs.Places.{lineStart}
 use Rattle.records.proofs.Starts.{next-line-starts}
 use Rattle.accounts.specs.Emissions.{addedGrams}
 use Rattle.accounts.specs.Order.{lineTests}
-use Rattle.gathering.specs.declared.totals.Totals.{Totals}
-use Rattle.gathering.specs.OwnerTotals.{withLine, firstOver, Owner, Columns, columnsOf, NoTotals, Sums}
-use Rattle.gathering.proofs.OwnerTotals.{place-below, sums-start, totalsAt, sums-on, capped-over}
+use Rattle.gathering.specs.OwnerTotals.{firstOver, Owner, Columns, columnsOf, columnsWith, NoTotals, Sums}
+use Rattle.gathering.proofs.OwnerTotals.{sums-start, sums-on, capped-over}
 
 -- ---- what 10 says of some lines
 abbrev pub tenOf : (starts : ℕ → ℕ) → List Line → Verdict
@@ -78,30 +77,25 @@ module _ (file : List ℕ) (start : Spot) (counts : Counts) where
   }
 
 module _
-    {file : List ℕ} {start : Spot} {counts : Counts} {added fuel captured : List ℕ} {over at : Spot} {l : ℕ}
-    (so-far : AddingUp file start counts (columnsOf added fuel captured) over at l)
+    {file : List ℕ} {start : Spot} {counts : Counts} {before : Columns} {over at : Spot} {l : ℕ}
+    (so-far : AddingUp file start counts before over at l)
     (more : l < counts .lines) (one : Line) (behind : Spot) (came : readsFrom (line counts) file at ≡ whole one behind)
-    (place : ℕ) (owner : Owner (one .«owner_kind») (one .owner) place) where
-  -- the totals of its owner, with this line
-  abbrev total : Totals
-  total = withLine (totalsAt (so-far .sums) place) one
-
-  -- the columns with it
-  abbrev columns : Columns
-  columns = columnsOf (set added place (total .added)) (set fuel place (total .fuel)) (set captured place (total .captured))
+    (place : ℕ) (owner : Owner (one .«owner_kind») (one .owner) place) (columns : Columns) (with-line : columns ≡ columnsWith before place one) where
+  -- what is added of its owner's lines
+  abbrev total : ℕ
+  total = getD (columns .added) place 0
 
   -- the lines up to this one
   abbrev with-it : List Line
   with-it = so-far .done ++ (one ∷ [])
 
   sums-with : Sums with-it columns
-  sums-with = sums-on (so-far .sums) one place owner
+  sums-with = rw with-line (sums-on (so-far .sums) one place owner)
 
   -- what its owner's lines add up to is what the code compares with the limit
-  compared : ltb mostGrams (total .added) ≡ ltb mostGrams (addedGrams (one .«owner_kind») (one .owner) with-it)
+  compared : ltb mostGrams total ≡ ltb mostGrams (addedGrams (one .«owner_kind») (one .owner) with-it)
   compared =
-      let there = getD-set-same added place (total .added) 0 (rw (so-far .sums .added .places) (place-below owner)) in
-      ap (ltb mostGrams) (sym there ∙ sums-with .added .each (one .«owner_kind») (one .owner) place owner)
+      ap (ltb mostGrams) (sums-with .added .each (one .«owner_kind») (one .owner) place owner)
       ∙ capped-over (addedGrams (one .«owner_kind») (one .owner) with-it)
 
   -- where it is: its own number, and its first byte
@@ -112,7 +106,7 @@ module _
   tested :
       over .place ≡ 0 → (later : List Line) →
       tenOf (starts file start counts) (with-it ++ later)
-      ≡ cond (ltb mostGrams (total .added)) (refuses (notice (numberOf TooManyGrams) (l + 1) (at .byte)))
+      ≡ cond (ltb mostGrams total) (refuses (notice (numberOf TooManyGrams) (l + 1) (at .byte)))
       (testedBy refuses (lineTests (starts file start counts) (with-it ++ later) (l + 1) (drop (l + 1) (with-it ++ later))) accepts)
   tested none later =
       rw (append-snoc (so-far .done) one later, compared, add-one l, so-far .stands)
@@ -120,7 +114,7 @@ module _
 
   -- one more is added
   pub one-added : AddingUp file start counts columns (firstOver over total here) behind (l + 1)
-  one-added = by-over (ℕ-discrete (over .place) 0) (ltb mostGrams (total .added)) refl
+  one-added = by-over (ℕ-discrete (over .place) 0) (ltb mostGrams total) refl
     where
       -- what holds whatever the limit
       with-limit :
@@ -138,7 +132,7 @@ module _
         past-limit = past;
       })
 
-      by-over : Dec (over .place ≡ 0) → (passes : Bool) → ltb mostGrams (total .added) ≡ passes → AddingUp file start counts columns (firstOver over total here) behind (l + 1)
+      by-over : Dec (over .place ≡ 0) → (passes : Bool) → ltb mostGrams total ≡ passes → AddingUp file start counts columns (firstOver over total here) behind (l + 1)
       by-over (yes none) false few =
           with-limit over (rw (few, and-false (eqb (over .place) 0)) refl)
           (λ is later. rw few at (tested none later))

@@ -7,8 +7,8 @@ use native.Mathlib.Nat.{mul-le-mul}
 use native.Mathlib.Decide.{decLe, ℕ-discrete}
 use native.Mathlib.Omega.{arith}
 use lib.Dec.{ltb, eqb}
-use lib.ListN.{length, getD, set, List·getD-eq-default, replicate, length-set, getD-replicate}
-use lib.Seq.{getD-set-same, getD-set-other}
+use lib.ListN.{length, getD, set, List·getD-eq-default, replicate, length-set, length-replicate, getD-replicate}
+use lib.Seq.{getD-set-same, getD-set-other, set-getD}
 use borrow.Author.Tests.{lt-ltb, le-ltb, eq-eqb, ne-eqb}
 use Rattle.fields.specs.declared.spot.Spot.{Spot}
 use Rattle.fields.specs.Reaching.{whole, readsFrom}
@@ -24,8 +24,7 @@ use Rattle.records.proofs.RecordsWithin.{line-within as line-read-within}
 use Rattle.records.proofs.Within.{line-within-most}
 use Rattle.accounts.specs.Emissions.{grams, ownedBy, gramsOf, ofClasses, isAdded, isFuel, isCaptured}
 use Rattle.accounts.proofs.OwnersLines.{no-grams, grams-with, grams-of-both}
-use Rattle.gathering.specs.declared.totals.Totals.{Totals}
-use Rattle.gathering.specs.OwnerTotals.{overGrams, capped, countedOn, withLine, SmallTotals, mostOfLine, owners, ownerPlace, Owner, columnsOf, NoTotals, SmallColumn, Totalled, Sums}
+use Rattle.gathering.specs.OwnerTotals.{overGrams, capped, countedOn, mostOfLine, owners, ownerPlace, Owner, Columns, columnsOf, NoTotals, SmallColumn, SmallColumns, countedAt, columnsWith, Totalled, Sums}
 
 -- ---- an owner and the place of its totals
 -- its place is one of those for owners
@@ -85,7 +84,7 @@ module _ (these : ℕ → Bool) where
     -- of one more: its owner's total has its grams, if they count, and the others stay
     totalled-on :
         (line : Line) (place : ℕ) → Owner (line .«owner_kind») (line .owner) place →
-        Totalled these (lines ++ (line ∷ [])) (set column place (countedOn (getD column place 0) (these (line .class)) (grams line)))
+        Totalled these (lines ++ (line ∷ [])) (countedAt column place (these (line .class)) (grams line))
     totalled-on line place owner = record {
       places = length-set column place total ∙ so-far .places;
       each = λ ownerKind owner' place' o'. by-place ownerKind owner' place' o' (ℕ-discrete place' place);
@@ -130,36 +129,37 @@ pub sums-start : (added fuel captured : List ℕ) → NoTotals added fuel captur
 sums-start added fuel captured (a, (f, c)) =
     record { added = totalled-start isAdded added a; fuel = totalled-start isFuel fuel f; captured = totalled-start isCaptured captured c }
 
-module _ {lines : List Line} {added fuel captured : List ℕ} (so-far : Sums lines (columnsOf added fuel captured)) where
-  -- the totals at a place
-  abbrev pub totalsAt : ℕ → Totals
-  totalsAt place = record { added = getD added place 0; fuel = getD fuel place 0; captured = getD captured place 0 }
-
+module _ {lines : List Line} {columns : Columns} (so-far : Sums lines columns) where
   pub sums-on :
-      (line : Line) (place : ℕ) → Owner (line .«owner_kind») (line .owner) place →
-      let total = withLine (totalsAt place) line in
-      Sums (lines ++ (line ∷ [])) (columnsOf (set added place (total .added)) (set fuel place (total .fuel)) (set captured place (total .captured)))
+      (line : Line) (place : ℕ) → Owner (line .«owner_kind») (line .owner) place → Sums (lines ++ (line ∷ [])) (columnsWith columns place line)
   sums-on line place owner = record {
     added = totalled-on isAdded (so-far .added) line place owner;
     fuel = totalled-on isFuel (so-far .fuel) line place owner;
     captured = totalled-on isCaptured (so-far .captured) line place owner;
   }
 
-  pub sums-small : (place : ℕ) → SmallTotals (totalsAt place)
-  sums-small place = record {
-    added = totalled-small isAdded (so-far .added) place;
-    fuel = totalled-small isFuel (so-far .fuel) place;
-    captured = totalled-small isCaptured (so-far .captured) place;
+  pub sums-small : SmallColumns columns
+  sums-small = record {
+    added = totalled-small isAdded (so-far .added);
+    fuel = totalled-small isFuel (so-far .fuel);
+    captured = totalled-small isCaptured (so-far .captured);
   }
 
--- ---- a line's grams, if they do not count in a total, and if they do
-pub left-out : (total of-line : ℕ) (counts : Bool) → not counts ≡ true → total ≤ overGrams → total ≡ countedOn total counts of-line
-left-out total of-line true is small = absurd (true≢false (sym is))
-left-out total of-line false is small = omega arith
+-- ---- a line's grams, if they do not count in a column, and if they do
+module _ (column : List ℕ) (place of-line : ℕ) (counts : Bool) where
+  pub left-out : not counts ≡ true → getD column place 0 ≤ overGrams → column ≡ countedAt column place counts of-line
+  left-out is small = sym (set-getD column place 0) ∙ ap (set column place) (same counts is)
+    where
+      same : (counts : Bool) → not counts ≡ true → getD column place 0 ≡ countedOn (getD column place 0) counts of-line
+      same true is = absurd (true≢false (sym is))
+      same false is = omega (arith, small)
 
-pub taken-in : (total of-line : ℕ) (counts : Bool) (sum : ℕ) → not counts ≡ false → sum ≡ capped (total + of-line) → sum ≡ countedOn total counts of-line
-taken-in total of-line true sum is same = same
-taken-in total of-line false sum is same = absurd (true≢false is)
+  pub taken-in : (sum : ℕ) → not counts ≡ false → sum ≡ capped (getD column place 0 + of-line) → set column place sum ≡ countedAt column place counts of-line
+  taken-in sum is same = ap (set column place) (by-class counts is)
+    where
+      by-class : (counts : Bool) → not counts ≡ false → sum ≡ countedOn (getD column place 0) counts of-line
+      by-class true is = same
+      by-class false is = absurd (true≢false is)
 
 -- ---- tests of totals that are counted no further
 -- whether one passes the limit

@@ -4,7 +4,7 @@ use mathlib.Core.Path.{_≡_}
 use mathlib.Core.Bool.{Bool, cond, _&&_}
 use mathlib.Core.List.{List}
 use lib.Dec.{ltb, eqb}
-use lib.ListN.{length, getD, replicate}
+use lib.ListN.{length, getD, set, replicate}
 use Rattle.number.specs.Groups.{largest}
 use Rattle.fields.specs.declared.reason.Reason.the-variants.{CapturedOverFuel}
 use Rattle.fields.specs.declared.spot.Spot.{Spot}
@@ -16,7 +16,6 @@ use Rattle.records.specs.Segments.{mostSegments}
 use Rattle.records.specs.Classes.{segmentOwner, largestFactor}
 use Rattle.records.specs.Lines.{mostGrams}
 use Rattle.accounts.specs.Emissions.{grams, gramsOf, ofClasses, isAdded, isFuel, isCaptured, lessCaptured}
-use Rattle.gathering.specs.declared.totals.Totals.{Totals}
 
 -- ---- one owner's
 -- Grams are counted up to one more than the limit (rule 9.3).
@@ -30,26 +29,13 @@ capped total = min total overGrams
 abbrev pub countedOn : (total : ℕ) (counts : Bool) (grams : ℕ) → ℕ
 countedOn total counts grams = capped (total + cond counts grams 0)
 
--- The totals with one line more, by its class (rules 3.4 and 4.2).
-abbrev pub withLine : Totals → Line → Totals
-withLine totals line = record {
-  added = countedOn (totals .added) (isAdded (line .class)) (grams line);
-  fuel = countedOn (totals .fuel) (isFuel (line .class)) (grams line);
-  captured = countedOn (totals .captured) (isCaptured (line .class)) (grams line);
-}
-
--- None is counted past one over the limit, and no line has more grams than this (rule 9.3).
-pub record SmallTotals (totals : Totals) : Type 0 where
-  pub added : totals .added ≤ overGrams
-  pub fuel : totals .fuel ≤ overGrams
-  pub captured : totals .captured ≤ overGrams
-
+-- The most grams that a line has (rule 9.3).
 abbrev pub mostOfLine : ℕ
 mostOfLine = largest * largestFactor
 
 -- The first line that passes the limit, by its number and its first byte; its number is 0 if there is none yet (rules 8.5 and 8.9).
-abbrev pub firstOver : Spot → Totals → Spot → Spot
-firstOver over total line = cond (eqb (over .place) 0 && ltb mostGrams (total .added)) line over
+abbrev pub firstOver : Spot → (total : ℕ) → Spot → Spot
+firstOver over total line = cond (eqb (over .place) 0 && ltb mostGrams total) line over
 
 -- ---- all owners', in columns: places for the most plants, and behind them for the segments
 abbrev pub owners : ℕ
@@ -80,6 +66,22 @@ NoTotals added fuel captured = (added ≡ replicate owners 0) × ((fuel ≡ repl
 -- No total of a column is counted past one over the limit (rule 9.3).
 abbrev pub SmallColumn : List ℕ → Type 0
 SmallColumn column = (place : ℕ) → getD column place 0 ≤ overGrams
+
+pub record SmallColumns (columns : Columns) : Type 0 where
+  pub added : SmallColumn (columns .added)
+  pub fuel : SmallColumn (columns .fuel)
+  pub captured : SmallColumn (columns .captured)
+
+-- A column with a line's grams in the total at a place, if they count there; and below all three with one line more, by its class (rules 3.4 and 4.2).
+abbrev pub countedAt : (column : List ℕ) (place : ℕ) (counts : Bool) (grams : ℕ) → List ℕ
+countedAt column place counts grams = set column place (countedOn (getD column place 0) counts grams)
+
+abbrev pub columnsWith : Columns → (place : ℕ) → Line → Columns
+columnsWith columns place line =
+    columnsOf
+    (countedAt (columns .added) place (isAdded (line .class)) (grams line))
+    (countedAt (columns .fuel) place (isFuel (line .class)) (grams line))
+    (countedAt (columns .captured) place (isCaptured (line .class)) (grams line))
 
 -- A column has at every owner's place the grams of its lines of these classes (rule 4.2).
 pub record Totalled (these : ℕ → Bool) (lines : List Line) (column : List ℕ) : Type 0 where

@@ -10,7 +10,8 @@ ghost use Rattle.fields.specs.Answers.{accepts, refuses, said};
 ghost use Rattle.fields.specs.Tests.{listed, testedBy};
 ghost use Rattle.gathering.specs.OwnerTotals.{columnsOf, firstOver, fuelTestBy, kgColumn, NoTotals, ownerPlace, SmallColumn};
 ghost use Rattle.gathering.specs.Inside.{AddedUp, LinesAdded};
-use crate::totals::Totals;
+use crate::totals::PLACES;
+use crate::totals::add_line;
 use crate::totals::less_captured;
 use fields::Answer;
 use fields::Reason;
@@ -35,8 +36,6 @@ pub struct Emissions {
 impl Emissions {
     // The most owners of one kind.
     pub const OWNERS: usize = Segment::MOST;
-    // The places for totals: those of the plants, and behind them those of the segments.
-    pub(crate) const PLACES: usize = Plant::MOST + Segment::MOST;
 }
 
 // Adds up the lines from a spot on, and puts what each plant and segment emits, in kg, into two columns of zeros: accepted if the lines are read to
@@ -53,9 +52,9 @@ pub(crate) fn add_up(
     requires { ⌜ (now plants ≡ replicate mostSegments 0) × (now segments ≡ replicate mostSegments 0) ⌝ }
     ensures { λ r. ⌜ AddedUp (now (file .entry)) start counts r (now (plants .exit)) (now (segments .exit)) ⌝ }
 {
-    let mut added = [0u64; Emissions::PLACES];
-    let mut fuel = [0u64; Emissions::PLACES];
-    let mut captured = [0u64; Emissions::PLACES];
+    let mut added = [0u64; PLACES];
+    let mut fuel = [0u64; PLACES];
+    let mut captured = [0u64; PLACES];
     let lines = add_lines(file, start, counts, &mut added, &mut fuel, &mut captured);
     if let Answer::Refused(_refusal) = lines {
         return lines;
@@ -82,9 +81,9 @@ fn add_lines(
     file: &[u8],
     start: Spot,
     counts: Counts,
-    added: &mut [u64; Emissions::PLACES],
-    fuel: &mut [u64; Emissions::PLACES],
-    captured: &mut [u64; Emissions::PLACES],
+    added: &mut [u64; PLACES],
+    fuel: &mut [u64; PLACES],
+    captured: &mut [u64; PLACES],
 ) -> Answer
     requires { ⌜ CountsWithin counts ⌝ }
     requires { ⌜ start .byte ≡ lineStart (now file) counts 0 ⌝ }
@@ -100,18 +99,8 @@ fn add_lines(
             ReadLine::Refused(refusal) => return Answer::Refused(refusal),
             ReadLine::Whole(line, next) => {
                 let owner = place_of(line);
-                let sum = added[owner];
-                let burnt = fuel[owner];
-                let taken = captured[owner];
-                let so_far = Totals {
-                    added: sum,
-                    fuel: burnt,
-                    captured: taken,
-                };
-                let total = so_far.with(line);
-                added[owner] = total.added;
-                fuel[owner] = total.fuel;
-                captured[owner] = total.captured;
+                add_line(line, owner, added, fuel, captured);
+                let total = added[owner];
                 let own = l + 1;
                 let here = Spot {
                     byte: at.byte,
@@ -143,22 +132,17 @@ fn place_of(line: Line) -> usize
 
 // The first line whose owner's total passes the limit, by its number and its first byte, 0 if there is none yet: the one found before, or else
 // this one (rules 8.5 and 8.9).
-fn first_over(over: Spot, total: Totals, line: Spot) -> Spot
+fn first_over(over: Spot, total: u64, line: Spot) -> Spot
     ensures { λ r. ⌜ r ≡ firstOver over total line ⌝ }
 {
-    if total.added <= Line::MOST_GRAMS {
+    if total <= Line::MOST_GRAMS {
         return over;
     }
     if over.place == 0 { line } else { over }
 }
 
 // 16, plant by plant: whether more is captured than its fuel gives (rule 8.10).
-fn test_captured(
-    fuel: &[u64; Emissions::PLACES],
-    captured: &[u64; Emissions::PLACES],
-    count: usize,
-    bytes: u64,
-) -> Answer
+fn test_captured(fuel: &[u64; PLACES], captured: &[u64; PLACES], count: usize, bytes: u64) -> Answer
     requires { ⌜ count ≤ mostPlants ⌝ }
     ensures { λ r. ⌜ said r ≡ testedBy refuses (listed (fuelTestBy bytes (now (fuel .entry)) (now (captured .entry))) 0 count) accepts ⌝ }
 {
@@ -174,8 +158,8 @@ fn test_captured(
 
 // Puts the totals of `count` owners in kg into a column of zeros, from the one at the place `first` on (rules 4.3 and 4.4).
 fn in_kg(
-    added: &[u64; Emissions::PLACES],
-    captured: &[u64; Emissions::PLACES],
+    added: &[u64; PLACES],
+    captured: &[u64; PLACES],
     first: usize,
     count: usize,
     kg: &mut [u64; Emissions::OWNERS],

@@ -77,46 +77,16 @@ enum-known-line c = search needs
 place-of-requires : tie.Need-place-of-requires Inv-loop μ-loop
 place-of-requires c κs = fits c
 
-mul-sum : tie.Need-mul-sum Inv-loop μ-loop
-mul-sum c = omega (arith, place-below (owner c))
-
-element-copy-out-sum : tie.Need-element-copy-out-sum Inv-loop μ-loop
-element-copy-out-sum c = place-below (owner c)
-
-mul-burnt : tie.Need-mul-burnt Inv-loop μ-loop
-mul-burnt c = omega (arith, place-below (owner (c .before)))
-
-element-copy-out-burnt : tie.Need-element-copy-out-burnt Inv-loop μ-loop
-element-copy-out-burnt c = place-below (owner (c .before))
-
-mul-taken : tie.Need-mul-taken Inv-loop μ-loop
-mul-taken c = omega (arith, place-below (owner (c .before .before)))
-
-element-copy-out-taken : tie.Need-element-copy-out-taken Inv-loop μ-loop
-element-copy-out-taken c = place-below (owner (c .before .before))
-
-with-requires : tie.Need-with-requires Inv-loop μ-loop
-with-requires c κs =
+add-line-requires : tie.Need-add-line-requires Inv-loop μ-loop
+add-line-requires c κs =
     let place = c .before .before .before in
-    (sums-small (loop (found (place .before)) .loop .inv .sums) (place .place-of .result), fits (place .before))
+    (fits (place .before), (place-below (owner place), sums-small (loop (found (place .before)) .loop .inv .sums)))
 
-mul-added : tie.Need-mul-added Inv-loop μ-loop
-mul-added c = omega (arith, place-below (owner (c .before .before .before .before)))
+mul-total : tie.Need-mul-total Inv-loop μ-loop
+mul-total c = omega (arith, place-below (owner (c .before .before .before .before)))
 
-element-write-added : tie.Need-element-write-added Inv-loop μ-loop
-element-write-added c = place-below (owner (c .before .before .before .before))
-
-mul-fuel : tie.Need-mul-fuel Inv-loop μ-loop
-mul-fuel c = omega (arith, place-below (owner (c .before .before .before .before)))
-
-element-write-fuel : tie.Need-element-write-fuel Inv-loop μ-loop
-element-write-fuel c = place-below (owner (c .before .before .before .before))
-
-mul-captured : tie.Need-mul-captured Inv-loop μ-loop
-mul-captured c = omega (arith, place-below (owner (c .before .before .before .before)))
-
-element-write-captured : tie.Need-element-write-captured Inv-loop μ-loop
-element-write-captured c = place-below (owner (c .before .before .before .before))
+element-copy-out-total : tie.Need-element-copy-out-total Inv-loop μ-loop
+element-copy-out-total c = place-below (owner (c .before .before .before .before))
 
 add-own : tie.Need-add-own Inv-loop μ-loop
 add-own c = omega arith
@@ -132,10 +102,11 @@ loop-less c = omega arith
 
 loop-again : tie.Need-loop-again Inv-loop μ-loop
 loop-again c =
-    let place = c .before .before .before .before .before in
+    let added = c .before .before in
+    let place = added .before .before .before .before in
     let known = place .before in
-    rw (c .first-over .ensures, c .before .with .ensures)
-    (one-added (loop (found known) .loop .inv) (found known .before .if1 .taken) (one known) _ (came known) (place .place-of .result) (owner place))
+    rw (c .first-over .ensures)
+    (one-added (loop (found known) .loop .inv) (found known .before .if1 .taken) (one known) _ (came known) (place .place-of .result) (owner place) _ (added .add-line .ensures))
 
 nothing-after-requires : tie.Need-nothing-after-requires Inv-loop μ-loop
 nothing-after-requires c κs = search needs
@@ -180,19 +151,9 @@ add-lines-spec =
     returns
     enum-known-line
     place-of-requires
-    mul-sum
-    element-copy-out-sum
-    mul-burnt
-    element-copy-out-burnt
-    mul-taken
-    element-copy-out-taken
-    with-requires
-    mul-added
-    element-write-added
-    mul-fuel
-    element-write-fuel
-    mul-captured
-    element-write-captured
+    add-line-requires
+    mul-total
+    element-copy-out-total
     add-own
     first-over-requires
     add-l

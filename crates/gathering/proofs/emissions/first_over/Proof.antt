@@ -10,17 +10,17 @@ use Rattle.gathering.proofs.emissions.first_over.Tie as tie
 
 returns : tie.Need-returns
 returns c =
-    let a = c .before .before .args in
-    rw (le-ltb mostGrams (a .total .added) (c .if1 .taken), and-false (eqb (a .over .place) 0)) refl
+    let a = c .before .args in
+    rw (le-ltb mostGrams (a .total) (c .if1 .taken), and-false (eqb (a .over .place) 0)) refl
 
 returns-2 : tie.Need-returns-2
 returns-2 c =
-    let a = c .before .before .before .before .args in
-    rw (eq-eqb (a .over .place) 0 (c .if2 .taken), lt-ltb mostGrams (a .total .added) (omega (arith, c .before .before .if1 .left))) refl
+    let a = c .before .before .before .args in
+    rw (eq-eqb (a .over .place) 0 (c .if2 .taken), lt-ltb mostGrams (a .total) (omega (arith, c .before .before .if1 .left))) refl
 
 returns-3 : tie.Need-returns-3
 returns-3 c =
-    let a = c .before .before .before .before .args in
+    let a = c .before .before .before .args in
     rw (ne-eqb (a .over .place) 0 (c .if2 .left)) refl
 
 pub first-over-spec : {M : Type 1} → statement M
