@@ -21,7 +21,9 @@ pub struct Class {
 impl Class {
     // How many rows the table has.
     pub const ROWS: usize = 9;
-    // The code of its last row.
+    // The codes of its first row and its last.
+    pub const FIRST: u64 = 1;
+
     pub const LAST: u64 = Class::ROWS as u64;
     // The largest factor, and the only one of what is captured, whose quantity is CO2 in kg (rule 3.3).
     pub const LARGEST_FACTOR: u64 = 1_000_000_000;
@@ -49,10 +51,15 @@ impl Class {
     pub(crate) fn allowed(code: u64, owner_kind: u64) -> bool
         ensures { λ r. ⌜ r ≡ classAllowed «owner_kind» code ⌝ }
     {
-        let class = Class::of(code);
-        match owner_kind {
-            Plant::OWNER_KIND => class.plant,
-            Segment::OWNER_KIND => class.segment,
+        match code {
+            Class::FIRST..=Class::LAST => {
+                let class = Class::of(code);
+                match owner_kind {
+                    Plant::OWNER_KIND => class.plant,
+                    Segment::OWNER_KIND => class.segment,
+                    _ => false,
+                }
+            }
             _ => false,
         }
     }
