@@ -31,6 +31,7 @@ use Rattle.records.proofs.RecordsWithin.{plants-within, segments-within, lines-
 use Rattle.reading.specs.declared.whole.ReadRecords.{ReadRecords}
 use Rattle.reading.specs.declared.whole.ReadRecords.the-variants as ReadRecords
 use Rattle.accounts.specs.Order.{emissionTests}
+use Rattle.gathering.specs.declared.emissions.Added.{Added}
 use Rattle.gathering.specs.declared.gathering.Gathered.{Gathered}
 use Rattle.gathering.specs.declared.network.Plants.{Plants}
 use Rattle.gathering.specs.declared.network.Segments.{Segments}
@@ -139,10 +140,10 @@ module _ (file : List ℕ) where
                 let more : last .byte < length file = omega (arith, h) in
                 rw (more-left (period lines) (last .place) file (last .byte) more, lt-ltb (last .byte) (length file) more) refl
 
-      module _ (answer : Answer) (plantKg segmentKg : List ℕ) (added : AddedUp file third counts answer plantKg segmentKg) where
+      module _ (added : Added) (all : AddedUp file third counts added) where
         -- the lines are refused
-        pub lines-out : (why : Refusal) → answer ≡ Refused why → GatherPromise file (noRecords why)
-        lines-out why is = kept-refused why (by-outcome outcome refl (sym (ap said is) ∙ added .verdict))
+        pub lines-out : (why : Refusal) → added .answer ≡ Refused why → GatherPromise file (noRecords why)
+        lines-out why is = kept-refused why (by-outcome outcome refl (sym (ap said is) ∙ all .verdict))
           where
             by-outcome :
                 (came : Reach (List Line)) → outcome ≡ came → refusing why ≡ linesRuling file counts came →
@@ -152,25 +153,20 @@ module _ (file : List ℕ) where
 
         -- they are added up
         abbrev gathered : Gathered
-        gathered = record {
-          answer = answer;
-          counts = counts;
-          plants = plants;
-          segments = segments;
-          emissions = record { bytes = length file; plants = plantKg; segments = segmentKg };
-        }
+        gathered = record { answer = added .answer; counts = counts; plants = plants; segments = segments; emissions = added .emissions }
 
-        pub all-gathered : answer ≡ Accepted → GatherPromise file gathered
-        all-gathered is = by-outcome outcome refl (sym (ap said is) ∙ added .verdict)
+        pub all-gathered : added .answer ≡ Accepted → GatherPromise file gathered
+        all-gathered is = by-outcome outcome refl (sym (ap said is) ∙ all .verdict)
           where
             by-outcome : (came : Reach (List Line)) → outcome ≡ came → accepts ≡ linesRuling file counts came → GatherPromise file gathered
             by-outcome (stopped notice) e same = absurd (refuses-not-accepts (sym same))
             by-outcome (whole lines last) e same =
+                let emitted = all .emitted is lines last e in
                 rw (line-read lines last e ∙ sym (ap (λ (v : Verdict). decided v (gatheredOf file (period lines))) same)) (record {
                   verdict = ap said is;
                   counts = announced-all lines last e;
                   plants = before .plants-read .kept;
                   segments = past .segments-read .kept;
-                  emissions = subst (λ (c : Counts). OwnerEmissions plantKg segmentKg c lines) (announced-all lines last e) (added .emitted is lines last e);
-                  bytes = refl;
+                  emissions = subst (λ (c : Counts). OwnerEmissions (added .emissions .plants) (added .emissions .segments) c lines) (announced-all lines last e) emitted;
+                  bytes = all .all-bytes is;
                 })

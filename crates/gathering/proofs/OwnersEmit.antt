@@ -31,9 +31,11 @@ use Rattle.accounts.specs.Emissions.{ofClasses, isAdded, addedGrams, fuelGrams,
 use Rattle.accounts.specs.Order.{lineTests, fuelTest, emissionTests}
 use Rattle.accounts.proofs.Accepting.{grams-each}
 use Rattle.accounts.proofs.OwnersLines.{no-grams, fuel-is-added}
+use Rattle.gathering.specs.declared.emissions.Added.{Added}
+use Rattle.gathering.specs.declared.emissions.Emissions.{Emissions}
 use Rattle.gathering.specs.Gathered.{ownerColumn, OwnerEmissions}
 use Rattle.gathering.specs.OwnerTotals.{Owner, columnsOf, SmallColumn, Sums, fuelTestBy, kgColumn}
-use Rattle.gathering.specs.Inside.{andThen, tenRuling, linesRuling, LinesAdded, AddedUp}
+use Rattle.gathering.specs.Inside.{andThen, tenRuling, linesRuling, LinesAdded, AddedUp, noneAdded}
 use Rattle.gathering.proofs.Listing.{listed-same}
 use Rattle.gathering.proofs.OwnerTotals.{totalled-small, capped-less}
 
@@ -110,17 +112,16 @@ module _
       by-end accepts = tests-then (lineTests (lineStart file counts) lines 0 lines) (listed (fuelTest (length file) lines) 0 (counts .plants))
 
   -- reading or 10 refuses
-  pub ten-out : {plantKg segmentKg : List ℕ} (why : Refusal) → answer ≡ Refused why → AddedUp file start counts answer plantKg segmentKg
+  pub ten-out : (why : Refusal) → answer ≡ Refused why → AddedUp file start counts (noneAdded why)
   ten-out why is = record {
-    verdict = by-reading came (so-far .verdict);
-    emitted = λ accepted. absurd (refused-not-accepted (sym is ∙ accepted));
+    verdict = by-reading came (sym (ap said is) ∙ so-far .verdict);
+    emitted = λ accepted. absurd (refused-not-accepted accepted);
+    all-bytes = λ accepted. absurd (refused-not-accepted accepted);
   }
     where
-      by-reading : (outcome : Reach (List Line)) → said answer ≡ tenRuling file counts outcome → said answer ≡ linesRuling file counts outcome
+      by-reading : (outcome : Reach (List Line)) → said (Refused why) ≡ tenRuling file counts outcome → said (Refused why) ≡ linesRuling file counts outcome
       by-reading (stopped notice) e = e
-      by-reading (whole lines last) e =
-          let refused : tenRuling file counts (whole lines last) ≡ said (Refused why) = sym e ∙ ap said is in
-          ap said is ∙ sym (ruled lines last ∙ ap (λ (v : Verdict). andThen v (sixteen lines)) refused)
+      by-reading (whole lines last) e = sym (ruled lines last ∙ ap (λ (v : Verdict). andThen v (sixteen lines)) (sym e))
 
   -- neither does: no total is counted past one over the limit
   pub small-added : answer ≡ Accepted → SmallColumn added
@@ -130,15 +131,20 @@ module _
       by-reading (stopped notice) e = absurd (refuses-not-accepts (sym (ap (tenRuling file counts) e) ∙ sym (so-far .verdict) ∙ ap said accepted))
       by-reading (whole lines last) e = totalled-small isAdded (so-far .sums accepted lines last e .added)
 
+  -- what the owners emit by their totals
+  abbrev emissionsBy : (bytes : ℕ) → Emissions
+  emissionsBy bytes =
+      record { bytes = bytes; plants = kgColumn added captured 0 (counts .plants); segments = kgColumn added captured mostPlants (counts .segments) }
+
   -- 16 decides, and if it accepts, the owners emit what the totals say
   pub sixteen-decides :
-      answer ≡ Accepted → CountsWithin counts → (r : Answer) (plantKg segmentKg : List ℕ) →
-      said r ≡ testedBy refuses (listed (fuelTestBy (length file) fuel captured) 0 (counts .plants)) accepts →
-      (r ≡ Accepted → (plantKg ≡ kgColumn added captured 0 (counts .plants)) × (segmentKg ≡ kgColumn added captured mostPlants (counts .segments))) →
-      AddedUp file start counts r plantKg segmentKg
-  sixteen-decides accepted within r plantKg segmentKg told kg = record {
+      answer ≡ Accepted → CountsWithin counts → (r : Added) →
+      said (r .answer) ≡ testedBy refuses (listed (fuelTestBy (length file) fuel captured) 0 (counts .plants)) accepts →
+      (r .answer ≡ Accepted → r .emissions ≡ emissionsBy (length file)) → AddedUp file start counts r
+  sixteen-decides accepted within r told kg = record {
     verdict = by-reading came refl;
     emitted = λ is lines last e. by-lines is lines last e (passed lines last e) (so-far .sums accepted lines last e);
+    all-bytes = λ is. ap (λ (x : Emissions). x .bytes) (kg is);
   }
     where
       passed : (lines : List Line) (last : Spot) → came ≡ whole lines last → testedBy refuses (lineTests (lineStart file counts) lines 0 lines) accepts ≡ accepts
@@ -148,7 +154,7 @@ module _
           by-end (refuses notice) same = absurd (refuses-not-accepts same)
           by-end accepts same = same
 
-      by-reading : (outcome : Reach (List Line)) → came ≡ outcome → said r ≡ linesRuling file counts came
+      by-reading : (outcome : Reach (List Line)) → came ≡ outcome → said (r .answer) ≡ linesRuling file counts came
       by-reading (stopped notice) e = absurd (refuses-not-accepts (sym (ap (tenRuling file counts) e) ∙ sym (so-far .verdict) ∙ ap said accepted))
       by-reading (whole lines last) e =
           let ten : tenRuling file counts (whole lines last) ≡ accepts = sym (ap (tenRuling file counts) e) ∙ sym (so-far .verdict) ∙ ap said accepted in
@@ -158,11 +164,14 @@ module _
           ∙ sym (ap (linesRuling file counts) e ∙ ruled lines last ∙ ap (λ (v : Verdict). andThen v (sixteen lines)) ten)
 
       by-lines :
-          r ≡ Accepted → (lines : List Line) (last : Spot) → came ≡ whole lines last →
+          r .answer ≡ Accepted → (lines : List Line) (last : Spot) → came ≡ whole lines last →
           testedBy refuses (lineTests (lineStart file counts) lines 0 lines) accepts ≡ accepts → Sums lines (columnsOf added fuel captured) →
-          OwnerEmissions plantKg segmentKg counts lines
+          OwnerEmissions (r .emissions .plants) (r .emissions .segments) counts lines
       by-lines is lines last e ten sums = record {
-        plants-are = kg is .0 ∙ kg-column (lineStart file counts) lines ten sums plantOwner 0 (counts .plants) (λ o h. omega (arith, h, within .most-plants));
+        plants-are =
+            ap (λ (x : Emissions). x .plants) (kg is)
+            ∙ kg-column (lineStart file counts) lines ten sums plantOwner 0 (counts .plants) (λ o h. omega (arith, h, within .most-plants));
         segments-are =
-            kg is .1 ∙ kg-column (lineStart file counts) lines ten sums segmentOwner mostPlants (counts .segments) (λ o h. omega (arith, h, within .most-segments));
+            ap (λ (x : Emissions). x .segments) (kg is)
+            ∙ kg-column (lineStart file counts) lines ten sums segmentOwner mostPlants (counts .segments) (λ o h. omega (arith, h, within .most-segments));
       }

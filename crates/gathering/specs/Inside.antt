@@ -19,6 +19,8 @@ use Rattle.records.specs.Headers.{announced}
 use Rattle.records.specs.Places.{lineStart}
 use Rattle.records.specs.Periods.{linesOf}
 use Rattle.accounts.specs.Order.{lineTests, emissionTests}
+use Rattle.gathering.specs.declared.emissions.Added.{Added}
+use Rattle.gathering.specs.declared.emissions.Emissions.{Emissions}
 use Rattle.gathering.specs.declared.gathering.Gathered.{Gathered}
 use Rattle.gathering.specs.Gathered.{OwnerEmissions}
 use Rattle.gathering.specs.OwnerTotals.{Columns, Sums}
@@ -48,19 +50,28 @@ pub record LinesAdded (file : List ℕ) (start : Spot) (counts : Counts) (answer
   pub sums :
       answer ≡ Accepted → (lines : List Line) (last : Spot) → readsFrom (linesOf counts) file start ≡ whole lines last → Sums lines columns
 
--- What adding them up gives: the verdict and, if it is acceptance, what each plant and segment emits (rules 4.3, 8.4, 8.5 and 8.10).
-pub record AddedUp (file : List ℕ) (start : Spot) (counts : Counts) (answer : Answer) (plantKg segmentKg : List ℕ) : Type 0 where
-  pub verdict : said answer ≡ linesRuling file counts (readsFrom (linesOf counts) file start)
+-- What adding them up gives: the verdict and, if it is acceptance, what each plant and segment emits and how many bytes were read (rules 4.3, 8.4, 8.5,
+-- 8.9 and 8.10).
+pub record AddedUp (file : List ℕ) (start : Spot) (counts : Counts) (r : Added) : Type 0 where
+  pub verdict : said (r .answer) ≡ linesRuling file counts (readsFrom (linesOf counts) file start)
   pub emitted :
-      answer ≡ Accepted → (lines : List Line) (last : Spot) → readsFrom (linesOf counts) file start ≡ whole lines last →
-      OwnerEmissions plantKg segmentKg counts lines
+      r .answer ≡ Accepted → (lines : List Line) (last : Spot) → readsFrom (linesOf counts) file start ≡ whole lines last →
+      OwnerEmissions (r .emissions .plants) (r .emissions .segments) counts lines
+  pub all-bytes : r .answer ≡ Accepted → r .emissions .bytes ≡ length file
 
 -- ---- the code's answer to a refused file
+-- Its emissions, below with the answer, and below with the columns of no records.
+abbrev pub noEmissions : Emissions
+noEmissions = record { bytes = 0; plants = replicate mostSegments 0; segments = replicate mostSegments 0 }
+
+abbrev pub noneAdded : Refusal → Added
+noneAdded why = record { answer = Refused why; emissions = noEmissions }
+
 abbrev pub noRecords : Refusal → Gathered
 noRecords why = record {
   answer = Refused why;
   counts = announced 0 0 0;
   plants = plantColumns (replicate mostPlants 0) (replicate mostPlants 0) (replicate mostPlants 0);
   segments = segmentColumns (replicate mostSegments 0) (replicate mostSegments 0) (replicate mostSegments 0);
-  emissions = record { bytes = 0; plants = replicate mostSegments 0; segments = replicate mostSegments 0 };
+  emissions = noEmissions;
 }

@@ -1,7 +1,6 @@
 // What the owners emit: the grams of their lines, added up as they are read, then tested and rounded up to a kg once (rules 4.1 to 4.4, 8.5 and 8.10).
 ghost use mathlib.Core.Path.{_≡_};
 ghost use Prim.Native.Nat.{_+_, _≤_};
-ghost use lib.ListN.{replicate};
 ghost use Rattle.records.specs.Plants.{mostPlants};
 ghost use Rattle.records.specs.Places.{lineStart};
 ghost use Rattle.records.specs.Segments.{mostSegments};
@@ -9,12 +8,13 @@ ghost use Rattle.records.specs.Within.{CountsWithin, LineWithin, mostCounts};
 ghost use Rattle.fields.specs.Answers.{accepts, refuses, said};
 ghost use Rattle.fields.specs.Tests.{listed, testedBy};
 ghost use Rattle.gathering.specs.OwnerTotals.{columnsOf, firstOver, fuelTestBy, kgColumn, NoTotals, ownerPlace, SmallColumn};
-ghost use Rattle.gathering.specs.Inside.{AddedUp, LinesAdded};
+ghost use Rattle.gathering.specs.Inside.{AddedUp, LinesAdded, noEmissions, noneAdded};
 use crate::totals::PLACES;
 use crate::totals::add_line;
 use crate::totals::less_captured;
 use fields::Answer;
 use fields::Reason;
+use fields::Refusal;
 use fields::Spot;
 use fields::nothing_after;
 use reading::ReadLine;
@@ -36,43 +36,62 @@ pub struct Emissions {
 impl Emissions {
     // The most owners of one kind.
     pub const OWNERS: usize = Segment::MOST;
+
+    // Those of a file that is refused.
+    pub(crate) fn none() -> Emissions
+        ensures { λ r. ⌜ r ≡ noEmissions ⌝ }
+    {
+        Emissions {
+            bytes: 0,
+            plants: [0; Emissions::OWNERS],
+            segments: [0; Emissions::OWNERS],
+        }
+    }
 }
 
-// Adds up the lines from a spot on, and puts what each plant and segment emits, in kg, into two columns of zeros: accepted if the lines are read to
-// the end of the file, no total passes the limit and no plant has more captured than its fuel gives (rules 4.2 to 4.4, 8.5 and 8.10).
-pub(crate) fn add_up(
-    file: &[u8],
-    start: Spot,
-    counts: Counts,
-    plants: &mut [u64; Emissions::OWNERS],
-    segments: &mut [u64; Emissions::OWNERS],
-) -> Answer
+// The lines added up: what is said of them, and what the owners emit.
+pub(crate) struct Added {
+    pub(crate) answer: Answer,
+    pub(crate) emissions: Emissions,
+}
+
+// Adds up the lines from a spot on, to what each plant and segment emits: accepted if they are read to the end of the file, no total passes the
+// limit and no plant has more captured than its fuel gives (rules 4.2 to 4.4, 8.5 and 8.10).
+pub(crate) fn add_up(file: &[u8], start: Spot, counts: Counts) -> Added
     requires { ⌜ CountsWithin counts ⌝ }
     requires { ⌜ start .byte ≡ lineStart (now file) counts 0 ⌝ }
-    requires { ⌜ (now plants ≡ replicate mostSegments 0) × (now segments ≡ replicate mostSegments 0) ⌝ }
-    ensures { λ r. ⌜ AddedUp (now (file .entry)) start counts r (now (plants .exit)) (now (segments .exit)) ⌝ }
+    ensures { λ r. ⌜ AddedUp (now (file .entry)) start counts r ⌝ }
 {
     let mut added = [0u64; PLACES];
     let mut fuel = [0u64; PLACES];
     let mut captured = [0u64; PLACES];
     let lines = add_lines(file, start, counts, &mut added, &mut fuel, &mut captured);
-    if let Answer::Refused(_refusal) = lines {
-        return lines;
+    if let Answer::Refused(refusal) = lines {
+        return refused(refusal);
     }
     let plant_count = counts.plants as usize;
     let answer = test_captured(&fuel, &captured, plant_count, file.len() as u64);
-    if let Answer::Refused(_refusal) = answer {
-        return answer;
+    if let Answer::Refused(refusal) = answer {
+        return refused(refusal);
     }
-    in_kg(&added, &captured, 0, plant_count, plants);
-    in_kg(
-        &added,
-        &captured,
-        Plant::MOST,
-        counts.segments as usize,
-        segments,
-    );
-    answer
+    Added {
+        answer,
+        emissions: Emissions {
+            bytes: file.len() as u64,
+            plants: in_kg(&added, &captured, 0, plant_count),
+            segments: in_kg(&added, &captured, Plant::MOST, counts.segments as usize),
+        },
+    }
+}
+
+// The answer for lines that are refused.
+fn refused(refusal: Refusal) -> Added
+    ensures { λ r. ⌜ r ≡ noneAdded refusal ⌝ }
+{
+    Added {
+        answer: Answer::Refused(refusal),
+        emissions: Emissions::none(),
+    }
 }
 
 // Reads the lines from a spot on, and adds each to its owner's totals, which stand in three columns. The first line that passes the limit is the
@@ -156,23 +175,23 @@ fn test_captured(fuel: &[u64; PLACES], captured: &[u64; PLACES], count: usize, b
     Answer::Accepted
 }
 
-// Puts the totals of `count` owners in kg into a column of zeros, from the one at the place `first` on (rules 4.3 and 4.4).
+// The totals of `count` owners in kg, from the one at the place `first` on, and zeros behind them (rules 4.3 and 4.4).
 fn in_kg(
     added: &[u64; PLACES],
     captured: &[u64; PLACES],
     first: usize,
     count: usize,
-    kg: &mut [u64; Emissions::OWNERS],
-)
+) -> [u64; Emissions::OWNERS]
     requires { ⌜ SmallColumn (now added) ⌝ }
     requires { ⌜ first + count ≤ mostPlants + mostSegments ⌝ }
     requires { ⌜ count ≤ mostSegments ⌝ }
-    requires { ⌜ now kg ≡ replicate mostSegments 0 ⌝ }
-    ensures { λ _. ⌜ now (kg .exit) ≡ kgColumn (now (added .entry)) (now (captured .entry)) first count ⌝ }
+    ensures { λ r. ⌜ r ≡ kgColumn (now (added .entry)) (now (captured .entry)) first count ⌝ }
 {
+    let mut kg = [0u64; Emissions::OWNERS];
     let mut o = 0;
     while o < count {
         kg[o] = less_captured(added[first + o], captured[first + o]);
         o += 1;
     }
+    kg
 }

@@ -99,22 +99,18 @@ fn gather_from_lines(
     requires { ⌜ NetworkPast (now file) counts plants segments start ⌝ }
     ensures { λ r. ⌜ GatherPromise (now (file .entry)) r ⌝ }
 {
-    let mut plant_kg = [0u64; Emissions::OWNERS];
-    let mut segment_kg = [0u64; Emissions::OWNERS];
-    let answer = add_up(file, start, counts, &mut plant_kg, &mut segment_kg);
+    let added = add_up(file, start, counts);
+    let answer = added.answer;
     if let Answer::Refused(refusal) = answer {
         return refused(refusal);
     }
+    let emissions = added.emissions;
     Gathered {
         answer,
         counts,
         plants,
         segments,
-        emissions: Emissions {
-            bytes: file.len() as u64,
-            plants: plant_kg,
-            segments: segment_kg,
-        },
+        emissions,
     }
 }
 
@@ -139,10 +135,6 @@ fn refused(refusal: Refusal) -> Gathered
             outflow: [0; Segment::MOST],
             next: [0; Segment::MOST],
         },
-        emissions: Emissions {
-            bytes: 0,
-            plants: [0; Emissions::OWNERS],
-            segments: [0; Emissions::OWNERS],
-        },
+        emissions: Emissions::none(),
     }
 }

@@ -5,6 +5,7 @@ use borrow.Author.Needs.{needs}
 use Rattle.fields.specs.declared.answer.Answer.the-variants.{Accepted}
 use Rattle.fields.specs.Answers.{said}
 use Rattle.fields.proofs.Answers.{refused-not-accepted}
+use Rattle.gathering.specs.Inside.{noneAdded}
 use Rattle.gathering.proofs.OwnersEmit.{ten-out, small-added, sixteen-decides}
 use Rattle.gathering.proofs.emissions.add_up.Statement.{statement}
 use Rattle.gathering.proofs.emissions.add_up.Tie as tie
@@ -28,10 +29,13 @@ add-lines-requires c κs = search needs
 enum-known-lines : tie.Need-enum-known-lines
 enum-known-lines c = search needs
 
+refused-requires : tie.Need-refused-requires
+refused-requires c κs = search needs
+
 returns : tie.Need-returns
 returns c =
-    let told = c .before .lines .given in
-    rw (← told .1) (ten-out (c .before .before .before .add-lines .ensures) (told .0 .0) (told .1))
+    let told = c .before .before .lines .given in
+    rw (c .refused .ensures) (ten-out (c .before .before .before .before .add-lines .ensures) (told .0 .0) (told .1))
 
 enum-told : tie.Need-enum-told
 enum-told c = search needs
@@ -42,35 +46,37 @@ test-captured-requires c κs = search needs
 enum-known-answer : tie.Need-enum-known-answer
 enum-known-answer c = search needs
 
+refused-requires-2 : tie.Need-refused-requires-2
+refused-requires-2 c κs = search needs
+
 returns-2 : tie.Need-returns-2
 returns-2 c =
-    let tested = c .before .before .before in
-    let told = c .before .answer .given in
-    sixteen-decides (lines tested .add-lines .ensures) (accepted tested) (start (lines tested) .pre .0) _ _ _
-    (sym (ap said (told .1)) ∙ tested .test-captured .ensures) (λ is. absurd (refused-not-accepted is))
+    let tested = c .before .before .before .before in
+    let told = c .before .before .answer .given in
+    rw (c .refused2 .ensures)
+    (sixteen-decides (lines tested .add-lines .ensures) (accepted tested) (start (lines tested) .pre .0) (noneAdded (told .0 .0))
+    (sym (ap said (told .1)) ∙ tested .test-captured .ensures) (λ is. absurd (refused-not-accepted is)))
 
 enum-told-2 : tie.Need-enum-told-2
 enum-told-2 c = search needs
 
 in-kg-requires : tie.Need-in-kg-requires
 in-kg-requires c κs =
-    let tested = c .before .before .before .before .before in
-    let pre = start (lines tested) .pre in
-    let most = pre .0 .most-plants in
-    (small-added (lines tested .add-lines .ensures) (accepted tested), (omega (arith, most), (omega (arith, most), pre .1 .1 .0)))
+    let tested = c .before .before .before .before in
+    let most = start (lines tested) .pre .0 .most-plants in
+    (small-added (lines tested .add-lines .ensures) (accepted tested), (omega (arith, most), omega (arith, most)))
 
 in-kg-requires-2 : tie.Need-in-kg-requires-2
 in-kg-requires-2 c κs =
-    let tested = c .before .before .before .before .before .before .before .before .before in
-    let pre = start (lines tested) .pre in
-    let most = pre .0 .most-segments in
-    (small-added (lines tested .add-lines .ensures) (accepted tested), (omega (arith, most), (most, pre .1 .1 .1)))
+    let tested = c .before .before .before .before .before .before .before in
+    let most = start (lines tested) .pre .0 .most-segments in
+    (small-added (lines tested .add-lines .ensures) (accepted tested), (omega (arith, most), most))
 
 returns-3 : tie.Need-returns-3
 returns-3 c =
-    let tested = c .before .before .before .before .before .before .before .before .before .before in
-    sixteen-decides (lines tested .add-lines .ensures) (accepted tested) (start (lines tested) .pre .0) _ _ _
-    (tested .test-captured .ensures) (λ is. (c .before .before .before .before .in-kg .ensures, c .in-kg2 .ensures))
+    let tested = c .before .before .before .before .before .before .before .before in
+    sixteen-decides (lines tested .add-lines .ensures) (accepted tested) (start (lines tested) .pre .0) _
+    (tested .test-captured .ensures) (λ is. rw (c .before .before .before .in-kg .ensures, c .in-kg2 .ensures) refl)
 
 pub add-up-spec : {M : Type 1} → statement M
 add-up-spec =
@@ -78,10 +84,12 @@ add-up-spec =
     (tie.spec
     add-lines-requires
     enum-known-lines
+    refused-requires
     returns
     enum-told
     test-captured-requires
     enum-known-answer
+    refused-requires-2
     returns-2
     enum-told-2
     in-kg-requires

@@ -1,6 +1,6 @@
 -- `gathering::emissions::in_kg` meets its contract: before each turn the owners' totals so far stand in kg. Assumes nothing.
 use Prim.Native.Nat.{ℕ, _+_, _-_, _≤_}
-use mathlib.Core.Path.{_≡_, _∙_}
+use mathlib.Core.Path.{_≡_}
 use native.Mathlib.Omega.{arith}
 use lib.ListN.{getD}
 use Rattle.records.specs.Segments.{mostSegments}
@@ -17,7 +17,7 @@ abbrev μ-loop : tie.MeasureT-loop
 μ-loop added captured first count kg₀ o₀ kg o = count - o
 
 loop-holds : tie.Need-loop-holds Inv-loop μ-loop
-loop-holds c = (omega arith, c .pre .1 .1 .1 ∙ filling-start 0 mostSegments _)
+loop-holds c = (omega arith, filling-start 0 mostSegments _)
 
 add-less-captured : tie.Need-add-less-captured Inv-loop μ-loop
 add-less-captured c = omega arith
@@ -45,8 +45,8 @@ less-captured-requires c κs =
 mul-kg : tie.Need-mul-kg Inv-loop μ-loop
 mul-kg c = omega arith
 
-element-write-kg : tie.Need-element-write-kg Inv-loop μ-loop
-element-write-kg c = omega arith
+array-write-kg : tie.Need-array-write-kg Inv-loop μ-loop
+array-write-kg c = omega arith
 
 add-o : tie.Need-add-o Inv-loop μ-loop
 add-o c = omega arith
@@ -80,7 +80,7 @@ in-kg-spec =
     element-copy-out-less-captured-2
     less-captured-requires
     mul-kg
-    element-write-kg
+    array-write-kg
     add-o
     loop-less
     loop-again
