@@ -1,5 +1,5 @@
 -- `gathering::emissions::add_up` meets its contract: reading, 10 or 16 refuses, or the totals of plants and segments are put in kg. Assumes nothing.
-use mathlib.Core.Path.{_≡_, sym, ap, _∙_}
+use mathlib.Core.Path.{_≡_, refl, sym, ap, _∙_}
 use native.Mathlib.Omega.{arith}
 use borrow.Author.Needs.{needs}
 use Rattle.fields.specs.declared.answer.Answer.the-variants.{Accepted}
