@@ -1,8 +1,8 @@
 -- Tests in their order, over any form of answer: the first that fails refuses, and if none fails the answer is the given one.
 use Prim.Native.Nat.{ℕ, zero, suc, _<_}
-use mathlib.Core.Path.{_≡_, refl, ap}
+use mathlib.Core.Path.{_≡_, refl, sym, ap, _∙_}
 use mathlib.Core.Bool.{Bool, true, false, cond}
-use mathlib.Core.List.{List, [], _∷_, _++_}
+use mathlib.Core.List.{List, [], _∷_, _++_, append-nil}
 use lib.ListN.{length, getD}
 use Rattle.fields.specs.Answers.{Notice}
 use Rattle.fields.specs.Tests.{Test, refusalBy, testedBy, FirstFails, here, later, NoneFails, end, holds, listed}
@@ -50,6 +50,28 @@ module _ {A : Type 0} (refuse : Notice → A) where
           (testedBy refuse tests answer ≡ refuse notice → FirstFails tests notice) → FirstFails (test ∷ tests) notice
       by-test true h e again = let same = told (refusalBy test) notice e in rw (← same) (here h)
       by-test false h e again = later h (again e)
+
+-- ---- tests in two forms of answer, where `turn` makes of the one what the other is
+module _ {A B : Type 0} (refuse : Notice → A) (refuse' : Notice → B) (turn : A → B) (turned : (notice : Notice) → refuse' notice ≡ turn (refuse notice)) where
+  -- with others behind them, which give what the answer turns to
+  pub tests-turned :
+      (tests rest : List Test) (answer : A) (answer' : B) → testedBy refuse' rest answer' ≡ turn answer →
+      testedBy refuse' (tests ++ rest) answer' ≡ turn (testedBy refuse tests answer)
+  unfolding testedBy
+  tests-turned [] rest answer answer' e = e
+  tests-turned (test ∷ tests) rest answer answer' e = by-test (test .fails) (tests-turned tests rest answer answer' e)
+    where
+      by-test :
+          (t : Bool) → testedBy refuse' (tests ++ rest) answer' ≡ turn (testedBy refuse tests answer) →
+          cond t (refuse' (refusalBy test)) (testedBy refuse' (tests ++ rest) answer') ≡ turn (cond t (refuse (refusalBy test)) (testedBy refuse tests answer))
+      by-test true same = turned (refusalBy test)
+      by-test false same = same
+
+  -- and by themselves
+  pub tests-as : (tests : List Test) (answer : A) → testedBy refuse' tests (turn answer) ≡ turn (testedBy refuse tests answer)
+  unfolding testedBy
+  tests-as tests answer =
+      ap (λ (all : List Test). testedBy refuse' all (turn answer)) (sym (append-nil tests)) ∙ tests-turned tests [] answer (turn answer) refl
 
 -- ---- what a test refuses with is never 0
 pub first-numbered : {tests : List Test} {notice : Notice} → FirstFails tests notice → 0 < notice .number

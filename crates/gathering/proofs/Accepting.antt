@@ -1,15 +1,14 @@
 -- A file that is accepted: its period is within the limits of reading, and no owner emits more than the largest number.
 use Prim.Native.Nat.{ℕ, _-_, _≤_}
 use mathlib.Core.Path.{_≡_, refl, sym, ap, _∙_}
-use mathlib.Core.Bool.{Bool, true, false, cond}
-use mathlib.Core.List.{List, [], _∷_}
+use mathlib.Core.List.{List}
 use native.Mathlib.Omega.{arith}
 use Rattle.number.specs.Groups.{largest}
 use Rattle.fields.specs.Answers.{Verdict, accepts, refuses}
 use Rattle.fields.specs.Readers.{Read, read, refused}
-use Rattle.fields.specs.Tests.{Test, refusalBy, testedBy, NoneFails}
+use Rattle.fields.specs.Tests.{Test, testedBy, NoneFails}
 use Rattle.fields.proofs.Answers.{refuses-not-accepts}
-use Rattle.fields.proofs.Testing.{none-answers, none-fails, none-of-both}
+use Rattle.fields.proofs.Testing.{none-answers, none-fails, tests-as, none-of-both}
 use Rattle.records.specs.Classes.{gramsInKg}
 use Rattle.records.specs.Periods.{Period, periodFile}
 use Rattle.records.specs.Places.{lineStart}
@@ -28,16 +27,7 @@ decided (refuses notice) gathered = nothingGathered notice
 decided accepts gathered = gathered
 
 pub tests-decide : (tests : List Test) (gathered : Contents) → testedBy nothingGathered tests gathered ≡ decided (testedBy refuses tests accepts) gathered
-unfolding testedBy
-tests-decide [] gathered = refl
-tests-decide (test ∷ tests) gathered = by-test (test .fails) (tests-decide tests gathered)
-  where
-    by-test :
-        (t : Bool) → testedBy nothingGathered tests gathered ≡ decided (testedBy refuses tests accepts) gathered →
-        cond t (nothingGathered (refusalBy test)) (testedBy nothingGathered tests gathered)
-        ≡ decided (cond t (refuses (refusalBy test)) (testedBy refuses tests accepts)) gathered
-    by-test true e = refl
-    by-test false e = e
+tests-decide tests gathered = tests-as refuses nothingGathered (λ (v : Verdict). decided v gathered) (λ notice. refl) tests accepts
 
 -- ---- what holds of a file that is accepted
 pub record Bounded (gathered : Contents) : Type 0 where

@@ -1,8 +1,8 @@
 -- What the owners' totals give: 16 by the totals is 16 by the lines, and the totals in kg are what every owner emits.
 use Prim.Native.Nat.{ℕ, suc, _+_, _≤_, _<_}
 use mathlib.Core.Path.{_≡_, refl, sym, ap, ap₂, _∙_}
-use mathlib.Core.Bool.{Bool, true, false, cond}
-use mathlib.Core.List.{List, [], _∷_, _++_}
+use mathlib.Core.Bool.{Bool}
+use mathlib.Core.List.{List}
 use native.Mathlib.Omega.{arith}
 use lib.Dec.{ltb}
 use lib.ListN.{length, getD}
@@ -15,9 +15,9 @@ use Rattle.fields.specs.Answers.{Verdict, accepts, refuses, said}
 use Rattle.fields.specs.Lists.{filled}
 use Rattle.fields.specs.Spots.{endAt}
 use Rattle.fields.specs.Reaching.{Reach, whole, stopped, readsFrom}
-use Rattle.fields.specs.Tests.{Test, refusalBy, testedBy, listed}
+use Rattle.fields.specs.Tests.{Test, testedBy, listed}
 use Rattle.fields.proofs.Answers.{refused-not-accepted, refuses-not-accepts}
-use Rattle.fields.proofs.Testing.{none-fails}
+use Rattle.fields.proofs.Testing.{none-fails, tests-turned}
 use Rattle.records.specs.declared.counts.Counts.{Counts}
 use Rattle.records.specs.declared.line.Line.{Line}
 use Rattle.records.specs.Plants.{mostPlants}
@@ -38,19 +38,6 @@ use Rattle.gathering.specs.OwnerTotals.{Owner, columnsOf, SmallColumn, S
 use Rattle.gathering.specs.Inside.{andThen, tenRuling, linesRuling, LinesAdded, AddedUp, noneAdded}
 use Rattle.gathering.proofs.Listing.{listed-same}
 use Rattle.gathering.proofs.OwnerTotals.{totalled-small, capped-less}
-
--- ---- tests one after another
-tests-then : (tests rest : List Test) → testedBy refuses (tests ++ rest) accepts ≡ andThen (testedBy refuses tests accepts) (testedBy refuses rest accepts)
-unfolding testedBy
-tests-then [] rest = refl
-tests-then (test ∷ tests) rest = by-test (test .fails) (tests-then tests rest)
-  where
-    by-test :
-        (t : Bool) → testedBy refuses (tests ++ rest) accepts ≡ andThen (testedBy refuses tests accepts) (testedBy refuses rest accepts) →
-        cond t (refuses (refusalBy test)) (testedBy refuses (tests ++ rest) accepts)
-        ≡ andThen (cond t (refuses (refusalBy test)) (testedBy refuses tests accepts)) (testedBy refuses rest accepts)
-    by-test true e = refl
-    by-test false e = e
 
 -- ---- the totals of lines that 10 does not refuse
 module _ (starts : ℕ → ℕ) (lines : List Line) (passed : testedBy refuses (lineTests starts lines 0 lines) accepts ≡ accepts) where
@@ -109,7 +96,9 @@ module _
           andThen v (testedBy refuses (emissionTests (lineStart file counts) (length file) (counts .plants) lines) accepts)
           ≡ andThen (andThen v (testedBy refuses (lineTests (lineStart file counts) lines 0 lines) accepts)) (sixteen lines)
       by-end (refuses notice) = refl
-      by-end accepts = tests-then (lineTests (lineStart file counts) lines 0 lines) (listed (fuelTest (length file) lines) 0 (counts .plants))
+      by-end accepts =
+          tests-turned refuses refuses (λ (v : Verdict). andThen v (sixteen lines)) (λ notice. refl)
+          (lineTests (lineStart file counts) lines 0 lines) (listed (fuelTest (length file) lines) 0 (counts .plants)) accepts accepts refl
 
   -- reading or 10 refuses
   pub ten-out : (why : Refusal) → answer ≡ Refused why → AddedUp file start counts (noneAdded why)

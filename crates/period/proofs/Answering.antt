@@ -1,17 +1,16 @@
 -- The call, step by step: what the settlement and the room in the tables give is the ruling of the definitions.
 use Prim.Native.Nat.{ℕ, _*_, _≤_}
 use mathlib.Core.Path.{_≡_, refl, sym, ap, ap₂, subst, _∙_}
-use mathlib.Core.Bool.{Bool, true, false, cond}
-use mathlib.Core.List.{List, [], _∷_, _++_, append-assoc, flatMap}
+use mathlib.Core.List.{List, _++_, append-assoc, flatMap}
 use lib.ListN.{length, length-map, drop}
 use Rattle.fields.specs.declared.answer.Answer.{Answer}
 use Rattle.fields.specs.declared.answer.Answer.the-variants.{Accepted, Refused}
 use Rattle.fields.specs.declared.answer.Refusal.{Refusal}
 use Rattle.fields.specs.Answers.{Verdict, accepts, refuses, refusing, said}
 use Rattle.fields.specs.Readers.{Read, read, refused}
-use Rattle.fields.specs.Tests.{Test, refusalBy, testedBy}
+use Rattle.fields.specs.Tests.{Test, testedBy}
 use Rattle.fields.proofs.Answers.{refuses-not-accepts}
-use Rattle.fields.proofs.Testing.{none-answers, listed-length}
+use Rattle.fields.proofs.Testing.{none-answers, tests-turned, tests-as, listed-length}
 use Rattle.records.specs.Headers.{announced}
 use Rattle.records.specs.Periods.{Period, periodFile}
 use Rattle.accounts.specs.Order.{Ruling, refusal, accepted, tested, segmentTests, plantNumbers, segmentNumbers, tableTests}
@@ -51,16 +50,7 @@ module _ (plantTable segmentTable bytes : ℕ) where
   tested-before :
       (tests : List Test) (settled : Settlement) (rest : List Test) (ruling : Ruling) → tested rest ruling ≡ ruled settled →
       tested (tests ++ rest) ruling ≡ ruled (settledBy tests settled)
-  unfolding testedBy
-  tested-before [] settled rest ruling e = e
-  tested-before (test ∷ tests) settled rest ruling e = by-test (test .fails) (tested-before tests settled rest ruling e)
-    where
-      by-test :
-          (t : Bool) → tested (tests ++ rest) ruling ≡ ruled (settledBy tests settled) →
-          cond t (refusal (refusalBy test)) (tested (tests ++ rest) ruling)
-          ≡ ruled (cond t (nothingSettled (refusalBy test)) (settledBy tests settled))
-      by-test true e = refl
-      by-test false e = e
+  tested-before tests settled rest ruling e = tests-turned nothingSettled refusal ruled (λ notice. refl) tests rest settled ruling e
 
   -- the ruling on a period that was read
   judged-is :
@@ -86,16 +76,7 @@ module _ (plantTable segmentTable bytes : ℕ) where
 
   -- what it says to the caller
   told-of-tests : (tests : List Test) (plants segments : List ℕ) → rulingVerdict (tested tests (accepted plants segments)) ≡ testedBy refuses tests accepts
-  unfolding testedBy
-  told-of-tests [] plants segments = refl
-  told-of-tests (test ∷ tests) plants segments = by-test (test .fails) (told-of-tests tests plants segments)
-    where
-      by-test :
-          (t : Bool) → rulingVerdict (tested tests (accepted plants segments)) ≡ testedBy refuses tests accepts →
-          rulingVerdict (cond t (refusal (refusalBy test)) (tested tests (accepted plants segments)))
-          ≡ cond t (refuses (refusalBy test)) (testedBy refuses tests accepts)
-      by-test true e = refl
-      by-test false e = e
+  told-of-tests tests plants segments = sym (tests-as refusal refuses rulingVerdict (λ notice. refl) tests (accepted plants segments))
 
   pub ruled-verdict :
       (settled : Settlement) →

@@ -1,14 +1,14 @@
 -- The call: what is gathered of a file, and then what its segments give, is the settlement of the definitions.
 use Prim.Native.Nat.{ℕ}
 use mathlib.Core.Path.{_≡_, refl, sym, ap, subst, _∙_}
-use mathlib.Core.Bool.{Bool, true, false, cond}
-use mathlib.Core.List.{List, [], _∷_, _++_}
+use mathlib.Core.List.{List, _++_}
 use lib.ListN.{length}
 use Rattle.fields.specs.declared.answer.Answer.the-variants.{Accepted, Refused}
 use Rattle.fields.specs.declared.answer.Refusal.{Refusal}
 use Rattle.fields.specs.Answers.{Verdict, accepts, refuses, said}
 use Rattle.fields.specs.Readers.{Read, read, refused}
-use Rattle.fields.specs.Tests.{Test, refusalBy, testedBy}
+use Rattle.fields.specs.Tests.{Test, testedBy}
+use Rattle.fields.proofs.Testing.{tests-turned}
 use Rattle.records.specs.declared.counts.Counts.{Counts}
 use Rattle.records.specs.Classes.{plantOwner, segmentOwner}
 use Rattle.records.specs.Periods.{Period, periodFile}
@@ -38,17 +38,8 @@ module _ (file : List ℕ) where
   tests-first :
       (period : Period) (tests : List Test) →
       settledBy (tests ++ segmentTests (length file) (accountsOf period)) (settledOf period) ≡ settledFrom (testedBy nothingGathered tests (gatheredOf file period))
-  unfolding testedBy
-  tests-first period [] = refl
-  tests-first period (test ∷ tests) = by-test (test .fails) (tests-first period tests)
-    where
-      by-test :
-          (t : Bool) →
-          settledBy (tests ++ segmentTests (length file) (accountsOf period)) (settledOf period) ≡ settledFrom (testedBy nothingGathered tests (gatheredOf file period)) →
-          cond t (nothingSettled (refusalBy test)) (settledBy (tests ++ segmentTests (length file) (accountsOf period)) (settledOf period))
-          ≡ settledFrom (cond t (nothingGathered (refusalBy test)) (testedBy nothingGathered tests (gatheredOf file period)))
-      by-test true e = refl
-      by-test false e = e
+  tests-first period tests =
+      tests-turned nothingGathered nothingSettled settledFrom (λ notice. refl) tests (segmentTests (length file) (accountsOf period)) (gatheredOf file period) (settledOf period) refl
 
   settled-from : settlement file ≡ settledFrom (gathering file)
   unfolding settlement settledPeriod gathering
