@@ -1,7 +1,8 @@
 -- `gathering::emissions::add_lines` meets its contract: each turn of its loop reads one line and adds it, by the laws of the owners' totals. Assumes nothing.
-use Prim.Native.Nat.{_-_}
+use Prim.Native.Nat.{_+_, _-_}
 use mathlib.Core.Path.{_≡_, sym, ap, _∙_}
 use native.Mathlib.Omega.{arith}
+use lib.ListN.{getD}
 use denote.Ref.{now}
 use borrow.Author.Needs.{needs}
 use Rattle.fields.specs.Reaching.{readsFrom, whole}
@@ -9,7 +10,7 @@ use Rattle.records.specs.declared.line.Line.{Line}
 use Rattle.reading.specs.Found.{lineFound}
 use Rattle.records.specs.Periods.{line}
 use Rattle.records.specs.Within.{LineWithin, mostCounts}
-use Rattle.gathering.specs.OwnerTotals.{Owner, columnsOf}
+use Rattle.gathering.specs.OwnerTotals.{firstOver, Owner, columnsOf}
 use Rattle.gathering.proofs.OwnerTotals.{place-below, line-fits, line-owner, sums-small}
 use Rattle.gathering.proofs.LinesAdded.{AddingUp, none-added, one-added}
 use Rattle.gathering.proofs.LinesEnded.{line-out, end-out, limit-out, lines-added}
@@ -105,8 +106,11 @@ loop-again c =
     let added = c .before .before in
     let place = added .before .before .before .before in
     let known = place .before in
-    rw (c .first-over .ensures)
-    (one-added (loop (found known) .loop .inv) (found known .before .if1 .taken) (one known) _ (came known) (place .place-of .result) (owner place) _ (added .add-line .ensures))
+    let l = loop (found known) .loop in
+    let total = getD (added .add-line .last .1 .1 .0) (place .place-of .result) 0 in
+    let first : c .first-over .result ≡ firstOver (l .over) total (record { byte = l .at .byte; place = l .l + 1 }) = c .first-over .ensures in
+    rw first
+    (one-added (l .inv) (found known .before .if1 .taken) (one known) _ (came known) (place .place-of .result) (owner place) _ (added .add-line .ensures))
 
 nothing-after-requires : tie.Need-nothing-after-requires Inv-loop μ-loop
 nothing-after-requires c κs = search needs
