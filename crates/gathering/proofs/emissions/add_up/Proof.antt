@@ -6,6 +6,8 @@ use Rattle.fields.specs.declared.answer.Answer.the-variants.{Accepted}
 use Rattle.fields.specs.Answers.{said}
 use Rattle.fields.proofs.Answers.{refused-not-accepted}
 use Rattle.gathering.specs.Inside.{noneAdded}
+use Rattle.records.specs.Plants.{mostPlants}
+use Rattle.gathering.specs.OwnerTotals.{kgColumn}
 use Rattle.gathering.proofs.OwnersEmit.{ten-out, small-added, sixteen-decides}
 use Rattle.gathering.proofs.emissions.add_up.Statement.{statement}
 use Rattle.gathering.proofs.emissions.add_up.Tie as tie
@@ -75,8 +77,12 @@ in-kg-requires-2 c κs =
 returns-3 : tie.Need-returns-3
 returns-3 c =
     let tested = c .before .before .before .before .before .before .before .before in
+    let last = lines tested .add-lines .last .1 .1 .1 in
+    let counts = start (lines tested) .args .counts in
+    let plants : c .before .before .before .in-kg .result ≡ kgColumn (last .0) (last .1 .1 .0) 0 (counts .plants) = c .before .before .before .in-kg .ensures in
+    let segments : c .in-kg2 .result ≡ kgColumn (last .0) (last .1 .1 .0) mostPlants (counts .segments) = c .in-kg2 .ensures in
     sixteen-decides (lines tested .add-lines .ensures) (accepted tested) (start (lines tested) .pre .0) _
-    (tested .test-captured .ensures) (λ is. rw (c .before .before .before .in-kg .ensures, c .in-kg2 .ensures) refl)
+    (tested .test-captured .ensures) (λ is. rw (plants, segments) refl)
 
 pub add-up-spec : {M : Type 1} → statement M
 add-up-spec =

@@ -1,13 +1,13 @@
 -- `gathering::emissions::test_captured` meets its contract: before each turn the plants so far passed, and the tests of the others are left. Assumes nothing.
-use Prim.Native.Nat.{ℕ, _-_}
-use mathlib.Core.Path.{sym, ap, _∙_}
+use Prim.Native.Nat.{ℕ, _+_, _-_}
+use mathlib.Core.Path.{_≡_, sym, ap, _∙_}
 use native.Mathlib.Numerals.{add-one}
 use native.Mathlib.Omega.{arith}
 use borrow.Author.Needs.{needs}
 use borrow.Author.Tests.{lt-ltb, le-ltb}
 use Rattle.fields.specs.declared.reason.Reason.the-variants.{CapturedOverFuel}
 use Rattle.fields.specs.Reasons.{numberOf}
-use Rattle.fields.specs.Answers.{notice, refuses, said}
+use Rattle.fields.specs.Answers.{refusedFor, notice, refuses, said}
 use Rattle.gathering.specs.OwnerTotals.{fuelTestBy}
 use Rattle.gathering.proofs.CapturedTests.{LeftToTest, none-tested, one-passed, one-fails, all-passed}
 use Rattle.gathering.proofs.emissions.test_captured.Statement.{statement}
@@ -43,7 +43,8 @@ refused-requires c κs = search needs
 returns : tie.Need-returns Inv-loop μ-loop
 returns c =
     let turn = c .before .before .before .before in
-    ap said (c .refused .ensures)
+    let told : c .refused .result ≡ refusedFor CapturedOverFuel (turn .before .loop .p + 1) (turn .before .before .args .bytes) = c .refused .ensures in
+    ap said told
     ∙ ap (λ (place : ℕ). refuses (notice (numberOf CapturedOverFuel) place (turn .before .before .args .bytes))) (add-one (turn .before .loop .p))
     ∙ sym (one-fails (turn .before .loop .inv) (turn .loop-test .taken) (lt-ltb _ _ (c .before .if1 .taken)))
 

@@ -1,7 +1,8 @@
--- `records::class::Class::of` meets its contract: no row before has the code; so it is the next row's, or a later one's, or no row's. Assumes nothing.
+-- `records::class::Class::of` meets its contract: its table is that of the definitions, and no row before has the code; so it is the next row's, or a later
+-- one's, or no row's. Assumes nothing.
 use Prim.Native.Nat.{ℕ, _-_, _≤_, _<_}
 use mathlib.Core.Logic.{_⊎_, inl, inr}
-use mathlib.Core.Path.{_≡_, sym, _∙_}
+use mathlib.Core.Path.{_≡_, refl, sym, _∙_}
 use native.Mathlib.Decide.{decLe}
 use native.Mathlib.Omega.{arith}
 use lib.ListN.{length}
@@ -20,14 +21,14 @@ outside code row end behind = by-code (decLe 1 code)
     by-code (no none) = inl (omega (arith, none))
 
 abbrev Inv-loop : tie.InvT-loop
-Inv-loop code table row₀ row = (row ≤ length classes) × (1 ≤ code → row < code)
+Inv-loop code table row₀ row = (table ≡ classes) × ((row ≤ length classes) × (1 ≤ code → row < code))
 
 abbrev μ-loop : tie.MeasureT-loop
 μ-loop code table row₀ row = length classes - row
 
 loop-holds : tie.Need-loop-holds Inv-loop μ-loop
 unfolding classes
-loop-holds c = (omega arith, λ some. some)
+loop-holds c = (refl, (omega arith, λ some. some))
 
 mul-class : tie.Need-mul-class Inv-loop μ-loop
 unfolding classes
@@ -66,14 +67,14 @@ unfolding classes
 loop-again c =
     let l = c .before .before .before .before .loop in
     let its = code-at (l .row) (omega arith) in
-    (omega arith, λ some. let behind = l .inv .1 some in omega (arith, its, behind, c .if1 .left))
+    (l .inv .0, (omega arith, λ some. let behind = l .inv .1 .1 some in omega (arith, its, behind, c .if1 .left)))
 
 none-requires : tie.Need-none-requires Inv-loop μ-loop
 none-requires c κs = search needs
 
 returns-2 : tie.Need-returns-2 Inv-loop μ-loop
 unfolding classes
-returns-2 c = c .none .ensures ∙ sym (no-row _ (outside _ _ (c .before .loop-test .left) (c .before .before .loop .inv .1)))
+returns-2 c = c .none .ensures ∙ sym (no-row _ (outside _ _ (c .before .loop-test .left) (c .before .before .loop .inv .1 .1)))
 
 pub of-spec : {M : Type 1} → statement M
 of-spec =
