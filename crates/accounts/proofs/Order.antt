@@ -2,7 +2,7 @@
 -- it is accepted exactly if none holds. `specs/AllTests.antt` lists the reasons as tests, each at its place and offset, in that order. Here the
 -- answer to a file is shown to be that of the first test that fails, and the rows of the period that stands in the file if none fails.
 use Prim.Native.Nat.{ℕ}
-use mathlib.Core.Path.{_≡_, sym, ap, _∙_}
+use mathlib.Core.Path.{_≡_, refl, sym, ap, _∙_}
 use mathlib.Core.Logic.{_↔_}
 use mathlib.Core.List.{List, [], _++_}
 use lib.ListN.{length}
@@ -48,17 +48,22 @@ module _ (file : List ℕ) (plantTable segmentTable : ℕ) where
   abbrev tests : List Test
   tests = allTests file plantTable segmentTable
 
+  -- those of a period that was read, which are listed behind the tests of reading
+  abbrev left : List Test
+  left =
+      emissionTests (lineStart file (countsAt file)) (length file) (countsAt file .plants) (periodAt file .lines)
+      ++ (segmentTests (length file) (accountsOf (periodAt file)) ++ tableTests (length file) (countsAt file) plantTable segmentTable)
+
+  behind-reading : tests ≡ readingTests file ++ left
+  unfolding allTests emissionTests
+  behind-reading = refl
+
   -- the answer is that of the first test that fails
   pub order : quantified file plantTable segmentTable ≡ tested tests rowsAt
-  unfolding quantified judged allTests periodAt periodFile
-  order = by-reading (period-tried file left)
+  unfolding quantified judged periodAt periodFile
+  order = by-reading (period-tried file left) ∙ ap (λ (all : List Test). tested all rowsAt) (sym behind-reading)
     where
-      left : List Test
-      left =
-          emissionTests (lineStart file (countsAt file)) (length file) (countsAt file .plants) (periodAt file .lines)
-          ++ (segmentTests (length file) (accountsOf (periodAt file)) ++ tableTests (length file) (countsAt file) plantTable segmentTable)
-
-      by-reading : PeriodTried file left → quantified file plantTable segmentTable ≡ tested tests rowsAt
+      by-reading : PeriodTried file left → quantified file plantTable segmentTable ≡ tested (readingTests file ++ left) rowsAt
       by-reading (all-pass is says) =
           ap (λ (outcome : Read Period). afterReading file outcome plantTable segmentTable) is ∙ simp listed-length (sym (says rowsAt))
       by-reading (one-fails {notice} is says) = reading-refuses file plantTable segmentTable notice is ∙ sym (says rowsAt)

@@ -67,7 +67,7 @@ pub record SegmentRecords (r : Segments) (segments : List Segment) : Type 0 wher
   pub outflow : r .outflow ≡ columnOf mostSegments (λ (segment : Segment). segment .outflow) segments
   pub next : r .next ≡ columnOf mostSegments (λ (segment : Segment). segment .next) segments
 
--- The column of what the first `count` owners of a kind emit by these lines; both kinds have the same room (rule 4.3).
+-- The column of what the first `count` owners of a kind emit by these lines; both kinds have the same room (rules 4.3 and 4.4).
 abbrev pub ownerColumn : (ownerKind count : ℕ) → List Line → List ℕ
 ownerColumn ownerKind count lines = filled 0 mostSegments (listed (λ (index : ℕ). emission ownerKind (suc index) lines) 0 count)
 
@@ -85,6 +85,6 @@ pub record Gathers (r : Gathered) (contents : Contents) : Type 0 where
   pub emissions : OwnerEmissions (r .emissions .plants) (r .emissions .segments) (countsOf (contents .period)) (contents .period .lines)
   pub bytes : r .emissions .bytes ≡ contents .bytes
 
--- The promise of `gather`: its answer is what is gathered of the file (rules 2.1 to 4.3, 8.1 to 8.5 and 8.9).
+-- The promise of `gather`: its answer is what is gathered of the file (rules 2.1 to 4.4, 8.1 to 8.5, 8.9 and 8.10).
 abbrev pub GatherPromise : List ℕ → Gathered → Type 0
 GatherPromise file r = Gathers r (gathering file)

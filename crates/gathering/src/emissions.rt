@@ -24,7 +24,7 @@ use records::Line;
 use records::Plant;
 use records::Segment;
 
-// What the owners emit, all zeros in a file that is refused (rule 4.3).
+// What the owners emit, all zeros in a file that is refused (rules 4.3 and 4.4).
 pub struct Emissions {
     // How many bytes were read up to the end of the file: the offset of what the accounts refuse (rule 8.9).
     pub bytes: u64,

@@ -1,4 +1,4 @@
-// A file gathered: its header, its plants, its segments and its lines, one part after another (rules 2.2 and 8.1 to 8.5).
+// A file gathered: its header, its plants, its segments and its lines, one part after another (rules 2.2, 8.1 to 8.5 and 8.10).
 ghost use mathlib.Core.Path.{_≡_};
 ghost use Rattle.fields.specs.Spots.{firstSpot};
 ghost use Rattle.fields.specs.Reaching.{readsFrom, whole};
@@ -31,7 +31,7 @@ pub struct Gathered {
     pub emissions: Emissions,
 }
 
-// Gathers a file of any length and content (rules 2.1 to 4.3 and 8.1 to 8.5).
+// Gathers a file of any length and content (rules 2.1 to 4.4, 8.1 to 8.5 and 8.10).
 pub fn gather(file: &[u8]) -> Gathered
     ensures { λ r. ⌜ GatherPromise (now (file .entry)) r ⌝ }
 {

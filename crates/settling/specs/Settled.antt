@@ -1,4 +1,4 @@
--- What a file gives before any table is looked at: whether it is refused (1 to 13), and the figures of every plant and segment.
+-- What a file gives before any table is looked at: whether it is refused (1 to 13 and 16), and the figures of every plant and segment.
 use Prim.Native.Nat.{ℕ}
 use mathlib.Core.Path.{_≡_}
 use mathlib.Core.List.{List, [], _++_, map}
@@ -106,6 +106,6 @@ pub record Settles (r : Settled) (settled : Settlement) : Type 0 where
   pub plants : PlantColumns (r .plants) (settled .plants)
   pub segments : SegmentColumns (r .segments) (settled .segments)
 
--- The promise of `settle`: its answer is the settlement of the file (rules 4.1 to 6.2 and 8.1 to 8.6).
+-- The promise of `settle`: its answer is the settlement of the file (rules 4.1 to 6.2, 8.1 to 8.6, 8.9 and 8.10).
 abbrev pub SettlePromise : List ℕ → Settled → Type 0
 SettlePromise file r = Settles r (settlement file)

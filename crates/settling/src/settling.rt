@@ -1,4 +1,4 @@
-// A period settled: its file is gathered, and its segments have their turns in rising number (rules 5.1 and 8.1 to 8.6).
+// A period settled: its file is gathered, and its segments have their turns in rising number (rules 5.1, 8.1 to 8.6 and 8.10).
 ghost use mathlib.Core.Path.{_≡_};
 ghost use Rattle.settling.specs.Settled.{SettlePromise};
 ghost use Rattle.settling.specs.Inside.{Given, nothingKept, SettledBy};
@@ -29,7 +29,7 @@ pub struct Settled {
     pub segments: SegmentAccounts,
 }
 
-// Settles a file of any length and content (rules 4.1 to 6.2 and 8.1 to 8.6).
+// Settles a file of any length and content (rules 4.1 to 6.2, 8.1 to 8.6 and 8.10).
 pub fn settle(file: &[u8]) -> Settled
     ensures { λ r. ⌜ SettlePromise (now (file .entry)) r ⌝ }
 {

@@ -6,6 +6,7 @@ use lib.ListN.{length, take, getD, length-take}
 use lib.Seq.{getD-take, length-take-le}
 use borrow.Author.Needs.{needs}
 use Rattle.fields.specs.Readers.{allowsNext, onward}
+use Rattle.records.specs.Classes.{factorAllowed}
 use Rattle.records.specs.Lines.{lineFields}
 use Rattle.records.specs.Periods.{line}
 use Rattle.records.proofs.RecordFields.{lineTest, line-tested, line-any}
@@ -76,7 +77,8 @@ returns-4 : tie.Need-returns-4
 returns-4 c =
     let s = c .before .before in
     let here = c .before .match .keys4 in
-    c .factor-allowed .ensures
+    let asked : c .factor-allowed .result ≡ factorAllowed (getD (s .args .t3) 2 0) (s .args .value) = c .factor-allowed .ensures in
+    asked
     ∙ sym (tested s 4 here (omega arith) ∙ ap (λ (k : ℕ). lineTest (s .args .counts) (kind s) k 4 (s .args .value)) (earlier s 2 (omega (arith, here))))
 
 returns-5 : tie.Need-returns-5
