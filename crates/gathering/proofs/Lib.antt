@@ -1,9 +1,9 @@
--- What is listed index by index; records kept column by column.
+-- What is listed index by index, and tests put so; records kept column by column.
 pub mod Listing
+mod TestsByIndex
 mod Keeping
 -- The owners' totals, and the loop that adds up the lines.
 mod OwnerTotals
-mod CapturedTests
 mod LinesAdded
 mod LinesEnded
 mod OwnersEmit

@@ -47,7 +47,7 @@ abbrev pub gatheredAfter : (file : List ℕ) → Read Period → Contents
 gatheredAfter file (refused notice) = nothingGathered notice
 gatheredAfter file (read period place at) = testedBy nothingGathered (gatheringTests file period) (gatheredOf file period)
 
--- What is gathered of a file (rules 8.3 to 8.5).
+-- What is gathered of a file (rules 8.3 to 8.5 and 8.10).
 unfoldable pub gathering : List ℕ → Contents
 gathering file = gatheredAfter file (periodFile file)
 

@@ -50,8 +50,8 @@ pub record LinesAdded (file : List ℕ) (start : Spot) (counts : Counts) (answer
   pub sums :
       answer ≡ Accepted → (lines : List Line) (last : Spot) → readsFrom (linesOf counts) file start ≡ whole lines last → Sums lines columns
 
--- What adding them up gives: the verdict and, if it is acceptance, what each plant and segment emits and how many bytes were read (rules 4.3, 8.4, 8.5,
--- 8.9 and 8.10).
+-- What adding them up gives: the verdict and, if it is acceptance, what each plant and segment emits and how many bytes were read (rules 4.3, 4.4, 8.4,
+-- 8.5, 8.9 and 8.10).
 pub record AddedUp (file : List ℕ) (start : Spot) (counts : Counts) (r : Added) : Type 0 where
   pub verdict : said (r .answer) ≡ linesRuling file counts (readsFrom (linesOf counts) file start)
   pub emitted :

@@ -42,7 +42,7 @@ pub record SmallEmissions (emissions : Emissions) : Type 0 where
   pub segments : Small (emissions .segments)
   pub sized : length (emissions .segments) ≡ mostSegments
 
--- Every plant and segment emits what the lines say, and there are zeros behind the segments (rule 4.3).
+-- Every plant and segment emits what the lines say, and there are zeros behind the segments (rules 4.3 and 4.4).
 pub record EmissionsOf (counts : Counts) (lines : List Line) (emissions : Emissions) : Type 0 where
   pub plants : (p : ℕ) → p < counts .plants → getD (emissions .plants) p 0 ≡ emission plantOwner (suc p) lines
   pub segments : (s : ℕ) → s < counts .segments → getD (emissions .segments) s 0 ≡ emission segmentOwner (suc s) lines

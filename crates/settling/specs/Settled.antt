@@ -80,7 +80,7 @@ abbrev pub settledAfter : (file : List ℕ) → Read Period → Settlement
 settledAfter file (refused notice) = nothingSettled notice
 settledAfter file (read period place at) = settledPeriod file period
 
--- The settlement of a file (rules 8.3 to 8.6).
+-- The settlement of a file (rules 8.3 to 8.6 and 8.10).
 unfoldable pub settlement : List ℕ → Settlement
 settlement file = settledAfter file (periodFile file)
 

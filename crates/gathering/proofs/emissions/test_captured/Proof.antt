@@ -9,7 +9,7 @@ use Rattle.fields.specs.declared.reason.Reason.the-variants.{CapturedOverFuel}
 use Rattle.fields.specs.Reasons.{numberOf}
 use Rattle.fields.specs.Answers.{refusedFor, notice, refuses, said}
 use Rattle.gathering.specs.OwnerTotals.{fuelTestBy}
-use Rattle.gathering.proofs.CapturedTests.{LeftToTest, none-tested, one-passed, one-fails, all-passed}
+use Rattle.gathering.proofs.TestsByIndex.{LeftToTest, none-tested, one-passed, one-fails, all-passed}
 use Rattle.gathering.proofs.emissions.test_captured.Statement.{statement}
 use Rattle.gathering.proofs.emissions.test_captured.Tie as tie
 
