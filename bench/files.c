@@ -8,7 +8,7 @@
 #define SEQUENCE_FACTOR UINT64_C(6364136223846793005)
 #define SEQUENCE_STEP UINT64_C(1442695040888963407)
 #define SEQUENCE_START UINT64_C(2026)
-enum { UPPER_HALF = 32 };
+enum { UPPER_HALF = 32, BYTE_BITS = 8 };
 
 /* Sizes of the figures, in bits, so that numbers of every length occur, some plants end with a net amount and some with a
    deficit, and all limits hold: exports add up to less than 2^31 kg, and the at most 16 lines of an owner to 2^35 g. */
@@ -147,6 +147,15 @@ static void draft_refused_year(struct draft *draft)
     draft->numbers[draft->count - 1] = LARGEST_READING + 1;
 }
 
+/* Writes the numbers with eight bytes each, least significant first; answers how many bytes they took. */
+static size_t put_list(uint8_t *bytes, const uint32_t *numbers, size_t count)
+{
+    for (size_t i = 0; i < count; i++)
+        for (size_t byte = 0; byte < STEEPLECUFF_NUMBER_BYTES; byte++)
+            *bytes++ = (uint8_t)((uint64_t)numbers[i] >> (BYTE_BITS * byte));
+    return count * STEEPLECUFF_NUMBER_BYTES;
+}
+
 bool make_file(struct file *file, const char *name)
 {
     static const struct {
@@ -161,6 +170,9 @@ bool make_file(struct file *file, const char *name)
         {"small-year", SHEET, draft_small_year, STEEPLECUFF_ACCEPTED},
         {"mixed-year", SHEET, draft_mixed_year, STEEPLECUFF_ACCEPTED},
         {"refused-year", SHEET, draft_refused_year, STEEPLECUFF_REFUSED_NUMBER_OVER_LIMIT},
+        {"whole-list", LIST, draft_whole, STEEPLECUFF_ACCEPTED},
+        {"full-list", LIST, draft_full, STEEPLECUFF_ACCEPTED},
+        {"refused-list", LIST, draft_refused, STEEPLECUFF_REFUSED_LINE_FIELD},
     };
     for (size_t i = 0; i < sizeof files / sizeof files[0]; i++) {
         if (strcmp(name, files[i].name) != 0)
@@ -168,7 +180,7 @@ bool make_file(struct file *file, const char *name)
         struct draft draft = {.sequence = SEQUENCE_START};
         files[i].draft(&draft);
         file->kind = files[i].kind;
-        file->len = put_numbers(file->bytes, draft.numbers, draft.count);
+        file->len = (file->kind == LIST ? put_list : put_numbers)(file->bytes, draft.numbers, draft.count);
         file->numbers = draft.count;
         file->refusal = files[i].refusal;
         return true;

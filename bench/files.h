@@ -1,4 +1,4 @@
-/* The period files and the meters' sheets on which the benchmark makes the calls. */
+/* The period files, the meters' sheets and the lists of numbers on which the benchmark makes the calls. */
 #ifndef FILES_H
 #define FILES_H
 
@@ -17,12 +17,12 @@ enum {
         HEADER_NUMBERS + PLANT_FIELDS * FULL_PLANTS + SEGMENT_FIELDS * FULL_SEGMENTS + LINE_FIELDS * FULL_LINES
 };
 
-/* Which call a file is for. */
-enum file_kind { PERIOD_FILE, SHEET };
+/* Which call a file is for. A list is no file: it has plain numbers of eight bytes. */
+enum file_kind { PERIOD_FILE, SHEET, LIST };
 
 struct file {
     enum file_kind kind;
-    uint8_t bytes[FULL_NUMBERS * MOST_NUMBER_BYTES]; /* a sheet has fewer numbers than a full-size period */
+    uint8_t bytes[FULL_NUMBERS * STEEPLECUFF_NUMBER_BYTES]; /* enough for all: a list has the longest numbers */
     size_t len;
     size_t numbers;
     uint32_t refusal; /* the expected answer */
@@ -30,7 +30,8 @@ struct file {
 
 /* Makes the file of that name: `whole`, the worked period (rule 13.11); `full`, a full-size one that is accepted;
    `refused`, the same refused at its very last number. Or the sheet of a full year: `small-year`, with readings of one
-   byte; `mixed-year`, of one to five; `refused-year`, the same refused at its last reading. False if there is none. */
+   byte; `mixed-year`, of one to five; `refused-year`, the same refused at its last reading. Or the numbers of the three
+   periods as a list: `whole-list`, `full-list` and `refused-list`. False if there is none. */
 bool make_file(struct file *file, const char *name);
 
 #endif

@@ -1,5 +1,5 @@
-/* harness: what the benchmark measures. FILE is a name of files.h, a period file or a sheet; which call is made follows
-   from it. FUNCTION is steeplecuff, plain, or empty, which does nothing.
+/* harness: what the benchmark measures. FILE is a name of files.h, a period file, a sheet or a list; which call is made
+   follows from it. FUNCTION is steeplecuff, plain, or empty, which does nothing.
      harness size FILE                   prints how many bytes and numbers the file has
      harness same FILE                   exits with 1 if the answers of steeplecuff and plain differ
      harness calls FUNCTION FILE TIMES   calls the function TIMES times
@@ -19,25 +19,28 @@ enum { DIFFERENT = 1, CANNOT_GO_ON = 2, DECIMAL = 10 };
 typedef uint32_t quantify(const uint8_t *, size_t, uint8_t *, size_t, uint8_t *, size_t, uint64_t *, uint64_t *);
 typedef uint32_t days(const uint8_t *, size_t, uint64_t *, uint64_t *, uint64_t *, uint64_t *, uint64_t *, uint64_t *,
                       uint64_t *);
+typedef uint32_t writer(const uint8_t *, size_t, uint8_t *, size_t, uint64_t *, uint64_t *);
 
 /* What FUNCTION names: a function for each kind of file. */
 struct functions {
     const char *name;
     quantify *quantify;
     days *days;
+    writer *write;
 };
 
 struct figures {
     uint64_t sum, repeated, repeated_zero, longest, first;
 };
 
-/* What a call leaves: the tables of a period file or the figures of a sheet. */
+/* What a call leaves: the tables of a period file, the figures of a sheet, or the file of a list. */
 struct answer {
+    uint8_t buffer[STEEPLECUFF_MOST_FILE_BYTES];
     uint8_t plants[STEEPLECUFF_MOST_PLANT_BYTES];
     uint8_t segments[STEEPLECUFF_MOST_SEGMENT_BYTES];
     struct figures figures;
     uint32_t refusal;
-    uint64_t place, offset;
+    uint64_t place, offset, written;
 };
 
 /* One call: its functions, its file and its answer. */
@@ -56,7 +59,7 @@ static int complain(const char *message, const char *word)
     return CANNOT_GO_ON;
 }
 
-/* These two show what any call costs. */
+/* These three show what any call costs. */
 static uint32_t empty_quantify(const uint8_t *file, size_t file_len, uint8_t *plants, size_t plants_len,
                                uint8_t *segments, size_t segments_len, uint64_t *place, uint64_t *offset)
 {
@@ -74,12 +77,19 @@ static uint32_t empty_days(const uint8_t *sheet, size_t sheet_len, uint64_t *sum
     return STEEPLECUFF_ACCEPTED;
 }
 
+static uint32_t empty_write(const uint8_t *numbers, size_t numbers_len, uint8_t *buffer, size_t buffer_len,
+                            uint64_t *written, uint64_t *place)
+{
+    (void)numbers, (void)numbers_len, (void)buffer, (void)buffer_len, (void)written, (void)place;
+    return STEEPLECUFF_ACCEPTED;
+}
+
 static void choose_function(const char *name)
 {
     static const struct functions all[] = {
-        {"steeplecuff", steeplecuff_quantify, steeplecuff_days},
-        {"plain", plain_quantify, plain_days},
-        {"empty", empty_quantify, empty_days},
+        {"steeplecuff", steeplecuff_quantify, steeplecuff_days, steeplecuff_write},
+        {"plain", plain_quantify, plain_days, plain_write},
+        {"empty", empty_quantify, empty_days, empty_write},
     };
     for (size_t i = 0; i < sizeof all / sizeof all[0]; i++)
         if (strcmp(name, all[i].name) == 0) {
@@ -92,7 +102,8 @@ static void choose_function(const char *name)
 static void choose_file(const char *name)
 {
     if (!make_file(&call.file, name))
-        exit(complain("whole, full, refused, small-year, mixed-year or refused-year", name));
+        exit(complain("whole, full, refused, small-year, mixed-year, refused-year, whole-list, full-list or refused-list",
+                      name));
 }
 
 static inline void make_quantify(void *made)
@@ -113,9 +124,19 @@ static inline void make_days(void *made)
                             &figures->longest, &figures->first, &one->answer.place, &one->answer.offset);
 }
 
+static inline void make_write(void *made)
+{
+    struct call *one = made;
+    struct answer *answer = &one->answer;
+    answer->refusal = one->functions.write(one->file.bytes, one->file.len, answer->buffer, sizeof answer->buffer,
+                                           &answer->written, &answer->place);
+}
+
 /* What makes the call that the file is for. */
 static void (*maker(void))(void *)
 {
+    if (call.file.kind == LIST)
+        return make_write;
     return call.file.kind == SHEET ? make_days : make_quantify;
 }
 
@@ -144,7 +165,8 @@ static int compare(const char *file)
     bool alike = ours.refusal == call.file.refusal && plain.refusal == call.file.refusal && ours.place == plain.place &&
                  ours.offset == plain.offset && memcmp(ours.plants, plain.plants, sizeof ours.plants) == 0 &&
                  memcmp(ours.segments, plain.segments, sizeof ours.segments) == 0 &&
-                 memcmp(&ours.figures, &plain.figures, sizeof ours.figures) == 0;
+                 memcmp(&ours.figures, &plain.figures, sizeof ours.figures) == 0 && ours.written == plain.written &&
+                 memcmp(ours.buffer, plain.buffer, sizeof ours.buffer) == 0;
     return alike ? 0 : DIFFERENT;
 }
 
@@ -154,12 +176,14 @@ static void make_calls(void (*make)(void *), long times)
         make(&call);
 }
 
-/* Names both makers, so that the compiler puts each into its loop and little is counted besides the call. */
+/* Names all makers, so that the compiler puts each into its loop and little is counted besides the call. */
 static int repeat(const char *function, const char *file, long times)
 {
     choose_function(function);
     choose_file(file);
-    if (call.file.kind == SHEET)
+    if (call.file.kind == LIST)
+        make_calls(make_write, times);
+    else if (call.file.kind == SHEET)
         make_calls(make_days, times);
     else
         make_calls(make_quantify, times);

@@ -1,15 +1,16 @@
 /*
- * Steeplecuff: the removal units of the capture plants of one certification period, and five figures of a meter's daily
- * readings.
+ * Steeplecuff: the removal units of the capture plants of one certification period, five figures of a meter's daily
+ * readings, and period files from plain numbers.
  *
- * There are two calls. steeplecuff_quantify takes a period file and fills two tables: a row for each plant and a row
+ * There are three calls. steeplecuff_quantify takes a period file and fills two tables: a row for each plant and a row
  * for each segment. steeplecuff_days takes a meter's sheet, the readings of up to a year, and gives five figures, among
- * them on how many days the meter repeated itself. Each call can also refuse what it is given; it then says why, where
- * and at which byte. docs/GUIDE.md explains the file, the sheet, the rows, the figures and the refusals, and
- * docs/RULES.md has the rules by number. This page says how a C or C++ program makes the calls, in this order:
+ * them on how many days the meter repeated itself. steeplecuff_write takes the numbers of a period as a list and writes
+ * its file. Each call can also refuse what it is given; it then says why and where, and the two that read say at which
+ * byte. docs/GUIDE.md explains the file, the sheet, the rows, the figures and the refusals, and docs/RULES.md has the
+ * rules by number. This page says how a C or C++ program makes the calls, in this order:
  *
  *   the version . the row of a plant . the row of a segment . limits . counts . answers . offsets . quantify . days .
- *   an example
+ *   write . an example
  *
  * Link with the archive target/staticlib/libhistorian.a, for x86-64, which `rt staticlib historian` proves and builds. Of
  * the C library it needs memcpy and memset. examples/historian.c is a whole program; examples/README.md shows how to
@@ -25,6 +26,8 @@
  * The version of this header and of the archive that it goes with. Its first part changes if callers have to change
  * their code.
  *
+ * New in 2.2.0: the call steeplecuff_write. The other calls stay as they are.
+ *
  * New in 2.1.0: a plant's line may have class 9, fossil CO2 captured with the rest, and a file can be refused with 16.
  * The calls stay as they are. A caller that looks refusals up in a list, as examples/historian.c does, needs 16 in it.
  *
@@ -32,7 +35,7 @@
  * again. What was compiled for 1.1.0 can still be linked, but must not be: it lends no offset, and the call would write
  * to a wrong address. All else is as in 1.1.0: numbers of refusal, places, tables and figures.
  */
-#define STEEPLECUFF_VERSION "2.1.0"
+#define STEEPLECUFF_VERSION "2.2.0"
 
 #ifdef __cplusplus
 extern "C" {
@@ -65,7 +68,8 @@ enum steeplecuff_segment_number {
  * The limits (chapter 9 of the rules). Tables of these sizes are large enough for every file. No file that can be read
  * is longer than STEEPLECUFF_MOST_FILE_BYTES, and no sheet than STEEPLECUFF_MOST_SHEET_BYTES. So a buffer of one byte
  * more is enough: a call on as much as fits into it gives the answer for the whole file or sheet, however long it is
- * (rule 9.2).
+ * (rule 9.2). To write, a buffer of STEEPLECUFF_MOST_FILE_BYTES is enough for every period, and no period has more than
+ * STEEPLECUFF_MOST_LIST_NUMBERS numbers.
  */
 enum steeplecuff_limit {
     STEEPLECUFF_MOST_PLANTS = 16,
@@ -79,7 +83,10 @@ enum steeplecuff_limit {
     STEEPLECUFF_MOST_SHEET_BYTES = 2 + STEEPLECUFF_MOST_DAYS * 5,
     /* the header and the records, each field with the most bytes that it can have: 7,029 */
     STEEPLECUFF_MOST_FILE_BYTES = (1 + 1 + 1 + 2) + STEEPLECUFF_MOST_PLANTS * (5 + 1 + 3) +
-                                  STEEPLECUFF_MOST_SEGMENTS * (1 + 5 + 1) + STEEPLECUFF_MOST_LINES * (1 + 1 + 1 + 5 + 5)
+                                  STEEPLECUFF_MOST_SEGMENTS * (1 + 5 + 1) + STEEPLECUFF_MOST_LINES * (1 + 1 + 1 + 5 + 5),
+    /* the numbers of the header and of all records: 2,708 */
+    STEEPLECUFF_MOST_LIST_NUMBERS =
+        4 + STEEPLECUFF_MOST_PLANTS * 3 + STEEPLECUFF_MOST_SEGMENTS * 3 + STEEPLECUFF_MOST_LINES * 5
 };
 
 /* Where an accepted file has the counts P and S, which say how many rows the tables have: the bytes file[1] and
@@ -94,6 +101,9 @@ enum steeplecuff_count_byte { STEEPLECUFF_PLANTS_BYTE = 1, STEEPLECUFF_SEGMENTS_
  *
  * A sheet can get 0, 1, 2, 3, 5 and 9, with the same meaning for the sheet as for a file (rule 12.7). Its number 0 is the
  * count of days, which 5 refuses; its number d is the reading of day d; so the place of 9 is one more than the days.
+ *
+ * A list of numbers that is to be written can get 0, 1, 3 to 9 and 14, with the same meaning for the list as for a file;
+ * "number" is counted in the list. 14 is STEEPLECUFF_REFUSED_BUFFER_SHORT there and is tested last.
  */
 enum steeplecuff_answer {
     STEEPLECUFF_ACCEPTED = 0,                         /* both tables, or all figures, are written; place and offset 0 */
@@ -111,6 +121,7 @@ enum steeplecuff_answer {
     STEEPLECUFF_REFUSED_OUTFLOW_OVER_INFLOW = 12,     /* an outflow is larger than the inflow: segment */
     STEEPLECUFF_REFUSED_EMISSION_WITHOUT_INFLOW = 13, /* a segment has emissions and no inflow: segment */
     STEEPLECUFF_REFUSED_PLANT_TABLE_SHORT = 14,       /* the plant table has fewer than 8P numbers: 8P */
+    STEEPLECUFF_REFUSED_BUFFER_SHORT = 14,            /* the buffer is shorter than the file to be written: its bytes */
     STEEPLECUFF_REFUSED_SEGMENT_TABLE_SHORT = 15,     /* the segment table has fewer than 5S numbers: 5S */
     STEEPLECUFF_REFUSED_CAPTURED_OVER_FUEL = 16       /* a plant has more grams of class 9 than of fuel: plant */
 };
@@ -128,6 +139,8 @@ enum steeplecuff_answer {
  *   11 to 16   the length of the file: no single byte is at fault
  *
  * The answers to a sheet have the same offsets, counted in the sheet. No offset is larger than the length.
+ *
+ * steeplecuff_write reads no file, so it has no offset: the place says which number of the list is at fault.
  */
 
 /*
@@ -181,6 +194,32 @@ uint32_t steeplecuff_days(const uint8_t *sheet, size_t sheet_len, uint64_t *sum,
                           uint64_t *offset);
 
 /*
+ * Writes the file of one period. Answers one of steeplecuff_answer and sets *written and *place: to the bytes written and
+ * 0 if the list is accepted, else to 0 and the place of the fault.
+ *
+ * In:   numbers[0 .. numbers_len - 1], the numbers of the period in the order of its file (rule 2.2): header, plants,
+ *       segments, lines. Each has eight bytes, least significant first, at any alignment. A length that is no multiple of
+ *       eight counts as its whole numbers. The list is only read; every content and length is answered.
+ * Out:  buffer[0 .. buffer_len - 1]. Acceptance writes the file to its first *written bytes, each number in its shortest
+ *       form; all behind them stays. steeplecuff_quantify reads the file as the same numbers, and a file that it can read
+ *       is written again as the same bytes. A refusal leaves the buffer as it was.
+ *
+ * The numbers are tested in their order, each as a reader of the file would test it: 1 if the list has ended, 3 if the
+ * number is over 4,000,000,000, then 4 to 8 for its field. Then 9 if numbers are left over; its place is how many the
+ * period has. Last 14 if the buffer is too short; its place is how many bytes are needed, so that a call with a buffer_len
+ * of 0 tells the length. What the accounts refuse (10 to 13, and 16) is not tested, and 2 cannot occur.
+ *
+ * The caller must make sure that no pointer is null, not even if its length is 0; that each is good for its length; and
+ * that the buffer, *written and *place overlap neither each other nor the list.
+ *
+ * Like the other calls, this one keeps nothing from one call to the next and has no global state: threads may make all
+ * three at the same time, each with a buffer, a count and a place of its own, also on the same list. It allocates nothing,
+ * calls nothing back and returns for every input.
+ */
+uint32_t steeplecuff_write(const uint8_t *numbers, size_t numbers_len, uint8_t *buffer, size_t buffer_len,
+                           uint64_t *written, uint64_t *place);
+
+/*
 Example:
 
     #include <inttypes.h>
@@ -221,6 +260,17 @@ Example:
             printf("nothing was metered\n");
         else
             printf("the same reading on %" PRIu64 " days, from day %" PRIu64 " on\n", longest, first);
+    }
+
+    void write_file(const uint8_t *numbers, size_t numbers_len, FILE *out)
+    {
+        uint8_t file[STEEPLECUFF_MOST_FILE_BYTES];
+        uint64_t written, place;
+        uint32_t refusal = steeplecuff_write(numbers, numbers_len, file, sizeof file, &written, &place);
+        if (refusal != STEEPLECUFF_ACCEPTED)
+            printf("refused: %" PRIu32 " at %" PRIu64 "\n", refusal, place);
+        else
+            fwrite(file, 1, (size_t)written, out);
     }
 */
 

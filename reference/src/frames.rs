@@ -1,6 +1,6 @@
 //! How many questions are put to a program at once: their frames, one after the other.
 //!
-//! Every frame ends with the bytes of a file; lengths have 4 bytes, least significant first.
+//! Every frame ends with the bytes of a file or of a list; lengths have 4 bytes, least significant first.
 
 use crate::questions::Question;
 use std::fmt;
@@ -116,6 +116,7 @@ mod tests {
     use crate::periods::historian::table_bytes::TableBytes;
     use crate::periods::question::PeriodFile;
     use crate::sheets::historian::call::DaysCall;
+    use crate::writing::historian::call::WriteCall;
     use std::fmt::Debug;
 
     fn two_numbers() -> Vec<NumberAt> {
@@ -146,6 +147,11 @@ mod tests {
 
     fn two_sheets() -> Vec<DaysCall> {
         [vec![0x01, 0x80], vec![]].map(DaysCall).to_vec()
+    }
+
+    fn two_writes() -> Vec<WriteCall> {
+        let first = WriteCall::of(&[300], 0x0102_0304).with_spare(&[7]);
+        vec![first, WriteCall::of(&[], 0)]
     }
 
     /// Asserts that the frames of two questions read back, and that every cut is reported.
@@ -198,11 +204,23 @@ mod tests {
     }
 
     #[test]
+    fn frame_of_a_list_is_two_lengths_then_bytes() {
+        let frames = write_frames(&two_writes()[..1]);
+        let expected = [
+            &[9, 0, 0, 0, 4, 3, 2, 1][..],
+            &[44, 1, 0, 0, 0, 0, 0, 0],
+            &[7],
+        ];
+        assert_eq!(frames, expected.concat());
+    }
+
+    #[test]
     fn written_frames_read_back_and_cuts_are_said() {
         assert_read_back(&two_numbers());
         assert_read_back(&two_files());
         assert_read_back(&two_calls());
         assert_read_back(&two_sheets());
+        assert_read_back(&two_writes());
     }
 
     /// Asserts what is said of the input whose frames are read as this question's.

@@ -6,6 +6,7 @@ mod asked_file;
 mod compare;
 mod file_bytes;
 mod frames;
+mod lent_bytes;
 mod numbers;
 mod periods;
 mod questions;
@@ -13,10 +14,12 @@ mod refusal;
 mod seeded;
 mod sheets;
 mod verdict;
+mod writing;
 
 use compare::one_run::compare_in_one_run;
 use compare::program::Program;
 use compare::starts::compare_starts;
+use compare::writes::compare_writes;
 use compare::{compare_suites, CompareCases, Fault};
 use numbers::question::NumberAt;
 use numbers::suites::number_suites;
@@ -41,6 +44,11 @@ use std::ffi::OsString;
 use std::fmt::Display;
 use std::io::{self, Read, Write};
 use std::process::ExitCode;
+use writing::form::Form;
+use writing::historian::call::WriteCall;
+use writing::historian::write_suites;
+use writing::texts::{period_texts, sheet_texts};
+use writing::written::{write_text, Written};
 
 /// Exit code if something differs.
 const DIFFERS: u8 = 1;
@@ -50,10 +58,11 @@ const REFUSED: u8 = 1;
 const NOT_DONE: u8 = 2;
 
 const USAGE: &str = "\
-usage: reference answer numbers|readings|historian|historian-days
+usage: reference answer numbers|readings|historian|historian-days|historian-write
            reads frames on standard input, writes one answer for each: a line, or for
-           historian and historian-days all that the call leaves
-       reference compare numbers|readings|historian|historian-days -- PROGRAM [ARGS..]
+           historian, historian-days and historian-write all that the call leaves
+       reference compare numbers|readings -- PROGRAM [ARGS..]
+       reference compare historian|historian-days|historian-write -- PROGRAM [ARGS..]
            puts each suite to PROGRAM in one run and compares its answers with its own
        reference compare rows -- PROGRAM [ARGS..]
            starts PROGRAM for each period file and compares the rows or the refusal it
@@ -64,6 +73,9 @@ usage: reference answer numbers|readings|historian|historian-days
        reference compare days -- PROGRAM [ARGS..]
            starts PROGRAM for each sheet of daily readings and compares the figures or
            the refusal it prints with its own
+       reference compare writes|writes-days -- PROGRAM [ARGS..]
+           starts PROGRAM for each text and compares the period file or the sheet that
+           it writes, or the line it prints in its place, with its own
        reference rows
            writes the rows of the period file on standard input, or its refusal
        reference inspect
@@ -72,6 +84,13 @@ usage: reference answer numbers|readings|historian|historian-days
            the walk ends; the line of the number at which it is refused ends with <--
        reference days
            writes the five figures of the sheet on standard input, or its refusal
+       reference write
+           writes the period file of the numbers in the text on standard input; or the
+           line L 131071 if the text is longer than that, T and the offset and value of
+           the first byte that is neither digit nor space nor in a remark, or the
+           refusal of the numbers, its byte counted in the text
+       reference write-days
+           the same for a sheet
        reference cases periods SEED COUNT
            writes COUNT cases of whole periods with their answers, one line each;
            SEED and COUNT are whole numbers, and the paper's own cases come first, then
@@ -86,16 +105,21 @@ enum Task {
     AnswerReadings,
     AnswerHistorian,
     AnswerHistorianDays,
+    AnswerHistorianWrite,
     CompareNumbers(Program),
     CompareReadings(Program),
     CompareHistorian(Program),
     CompareHistorianDays(Program),
+    CompareHistorianWrite(Program),
     CompareRows(Program),
     CompareInspections(Program),
     CompareDays(Program),
+    CompareWrites(Program),
+    CompareWritesDays(Program),
     Rows,
     Inspect,
     Days,
+    Write(Form),
     CasesOfPeriods { seed: u64, count: usize },
     CasesOfSheets { seed: u64, count: usize },
 }
@@ -107,6 +131,7 @@ fn main() -> ExitCode {
         Some(Task::AnswerReadings) => answer::<PeriodFile>(),
         Some(Task::AnswerHistorian) => answer::<HistorianCall>(),
         Some(Task::AnswerHistorianDays) => answer::<DaysCall>(),
+        Some(Task::AnswerHistorianWrite) => answer::<WriteCall>(),
         Some(Task::CompareNumbers(program)) => {
             compare(&number_suites(), &program, compare_in_one_run)
         }
@@ -119,14 +144,20 @@ fn main() -> ExitCode {
         Some(Task::CompareHistorianDays(program)) => {
             compare(&days_suites(), &program, compare_in_one_run)
         }
+        Some(Task::CompareHistorianWrite(program)) => {
+            compare(&write_suites(), &program, compare_in_one_run)
+        }
         Some(Task::CompareRows(program)) => compare(&printed_suites(), &program, compare_starts),
         Some(Task::CompareInspections(program)) => {
             compare(&inspection_suites(), &program, compare_starts)
         }
         Some(Task::CompareDays(program)) => compare(&printed_sheets(), &program, compare_starts),
+        Some(Task::CompareWrites(program)) => compare(&period_texts(), &program, compare_writes),
+        Some(Task::CompareWritesDays(program)) => compare(&sheet_texts(), &program, compare_writes),
         Some(Task::Rows) => rows(),
         Some(Task::Inspect) => inspection(),
         Some(Task::Days) => days(),
+        Some(Task::Write(form)) => write(form),
         Some(Task::CasesOfPeriods { seed, count }) => cases(period_cases(seed), count),
         Some(Task::CasesOfSheets { seed, count }) => cases(sheet_cases(seed), count),
         None => Err(USAGE.to_string()),
@@ -149,6 +180,7 @@ fn task_of(arguments: &[OsString]) -> Option<Task> {
         (["answer", "readings"], _) => Some(Task::AnswerReadings),
         (["answer", "historian"], _) => Some(Task::AnswerHistorian),
         (["answer", "historian-days"], _) => Some(Task::AnswerHistorianDays),
+        (["answer", "historian-write"], _) => Some(Task::AnswerHistorianWrite),
         (["compare", what, "--", ..], [_, _, _, path, rest @ ..]) => {
             let program = Program {
                 path: path.clone(),
@@ -159,6 +191,8 @@ fn task_of(arguments: &[OsString]) -> Option<Task> {
         (["rows"], _) => Some(Task::Rows),
         (["inspect"], _) => Some(Task::Inspect),
         (["days"], _) => Some(Task::Days),
+        (["write"], _) => Some(Task::Write(Form::Period)),
+        (["write-days"], _) => Some(Task::Write(Form::Sheet)),
         (["cases", what, seed, count], _) => {
             task_to_write_cases(what, seed.parse().ok()?, count.parse().ok()?)
         }
@@ -173,9 +207,12 @@ fn task_to_compare(what: &str, program: Program) -> Option<Task> {
         "readings" => Some(Task::CompareReadings(program)),
         "historian" => Some(Task::CompareHistorian(program)),
         "historian-days" => Some(Task::CompareHistorianDays(program)),
+        "historian-write" => Some(Task::CompareHistorianWrite(program)),
         "rows" => Some(Task::CompareRows(program)),
         "inspections" => Some(Task::CompareInspections(program)),
         "days" => Some(Task::CompareDays(program)),
+        "writes" => Some(Task::CompareWrites(program)),
+        "writes-days" => Some(Task::CompareWritesDays(program)),
         _ => None,
     }
 }
@@ -226,6 +263,17 @@ fn days() -> Result<ExitCode, String> {
     let answered = figures_of(&input()?);
     output(figures::printed(&answered).as_bytes())?;
     Ok(exit_code(&answered))
+}
+
+/// Writes the file of the numbers in the text on standard input, or the line that says why there is
+/// none.
+fn write(form: Form) -> Result<ExitCode, String> {
+    let written = write_text(&input()?, form);
+    output(&written.bytes())?;
+    match written {
+        Written::File(_) => Ok(ExitCode::SUCCESS),
+        Written::Unread(_) | Written::Refused(_) => Ok(ExitCode::from(REFUSED)),
+    }
 }
 
 /// What the program exits with after it has written the answer to a file.

@@ -1,7 +1,8 @@
 //! What can be asked of a program: many questions in one run, one answer for each, or what it
-//! prints when it is started for one file.
+//! prints or writes when it is started for one file or text.
 
 use crate::frames::FrameFault;
+use crate::writing::written::Written;
 
 /// A question that is put to a program as a frame of bytes and has one right answer.
 pub trait Question: Sized {
@@ -63,6 +64,22 @@ pub trait FileToPrint {
     }
 
     /// The file in words.
+    fn in_words(&self) -> String;
+}
+
+/// A text for which a program is started, and what must be written then: the bytes of a file, or a
+/// line.
+pub trait TextToWrite {
+    /// The labels of all that can be written, in the order of the report.
+    const LABELS: &'static [&'static str];
+
+    /// The text that is put to the program.
+    fn text(&self) -> &[u8];
+
+    /// What must be written.
+    fn written(&self) -> Written;
+
+    /// The text in words.
     fn in_words(&self) -> String;
 }
 

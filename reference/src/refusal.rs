@@ -25,6 +25,9 @@ pub enum Reason {
 }
 
 impl Reason {
+    /// What 14 means to a writer, which is lent a buffer where an account is lent tables.
+    pub const BUFFER_SHORT: Reason = Reason::PlantTableShort;
+
     /// This reason at a place.
     pub fn at(self, place: usize) -> Placed {
         Placed {

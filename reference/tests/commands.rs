@@ -162,12 +162,79 @@ fn calls_for_sheets_are_answered_with_all_they_leave() {
 }
 
 #[test]
+fn calls_that_write_are_answered_with_all_they_leave() {
+    // Refused: edition 2, and a spare byte. Accepted: one plant without export and one store.
+    let refused = [9, 0, 0, 0, 2, 0, 0, 0, 2, 0, 0, 0, 0, 0, 0, 0, 1];
+    let numbers: [u64; 10] = [1, 1, 1, 0, 0, 1, 0, 6, 0, 0];
+    let list: Vec<u8> = numbers.iter().flat_map(|n| n.to_le_bytes()).collect();
+    let accepted = [&[80, 0, 0, 0, 11, 0, 0, 0][..], &list].concat();
+    let output = run(
+        &["answer", "historian-write"],
+        &[&refused[..], &accepted].concat(),
+    );
+    let expected = [
+        &[4, 0, 0, 0][..],
+        &[0; 8],
+        &[0; 8],
+        &[60, 83],
+        &[0, 0, 0, 0],
+        &[10, 0, 0, 0, 0, 0, 0, 0],
+        &[0; 8],
+        &[1, 1, 1, 0, 0, 1, 0, 6, 0, 0],
+        &[34],
+    ];
+    assert_eq!(output.stdout, expected.concat());
+    assert_eq!(output.status.code(), Some(0));
+}
+
+#[test]
+fn text_is_written_as_a_period_file() {
+    let typed = b"# the whole period\r\n1 2 2 2\n10000 1 1000000 5001 01 900000\t1 14900 2 \
+        6 14899 0#store\n0 1 4 2000 350 1 1 3 101 2650";
+    let output = run(&["write"], typed);
+    assert_eq!(output.stdout, WHOLE_PERIOD);
+    assert_eq!(text(&output.stderr), "");
+    assert_eq!(output.status.code(), Some(0));
+}
+
+#[test]
+fn text_is_written_as_a_sheet() {
+    let output = run(&["write-days"], b"3 300 9 9");
+    assert_eq!(output.stdout, [0x03, 0xAC, 0x02, 0x09, 0x09]);
+    assert_eq!(output.status.code(), Some(0));
+}
+
+#[test]
+fn text_without_a_file_is_refused_in_one_line() {
+    let long = vec![b' '; 131_072];
+    for (command, typed, line) in [
+        ("write", &b""[..], "R 1 0 0\n"),
+        ("write", b"1 2 2\n", "R 1 3 6\n"),
+        ("write", b" 1 17", "R 5 1 3\n"),
+        ("write", b"1 99999999999999999999999", "R 3 1 2\n"),
+        ("write", b"1 2,5", "T 3 44\n"),
+        ("write", &long, "L 131071\n"),
+        ("write-days", b"", "R 1 0 0\n"),
+        ("write-days", b"1 7 # day 1\n8", "R 9 2 12\n"),
+        ("write-days", b"367", "R 5 0 0\n"),
+        ("write-days", b"1 7.", "T 3 46\n"),
+        ("write-days", &long, "L 131071\n"),
+    ] {
+        let output = run(&[command], typed);
+        assert_eq!(text(&output.stdout), line);
+        assert_eq!(text(&output.stderr), "");
+        assert_eq!(output.status.code(), Some(1));
+    }
+}
+
+#[test]
 fn program_agrees_with_itself() {
     for (what, suites) in [
         ("numbers", 6),
         ("readings", 13),
         ("historian", 17),
         ("historian-days", 15),
+        ("historian-write", 12),
     ] {
         let output = run(&["compare", what, "--", REFERENCE, "answer", what], &[]);
         assert_passed(&output, suites);
@@ -176,6 +243,8 @@ fn program_agrees_with_itself() {
         ("rows", "rows", 7),
         ("inspections", "inspect", 14),
         ("days", "days", 11),
+        ("writes", "write", 10),
+        ("writes-days", "write-days", 11),
     ] {
         let output = run(&["compare", what, "--", REFERENCE, command], &[]);
         assert_passed(&output, suites);
@@ -251,6 +320,26 @@ fn program_that_leaves_other_than_the_figures_fails() {
         "bytes [01 07]: expected refusal 0, place 0 and offset 0, came only 8 of 60 bytes"
     ));
     assert_eq!(report.lines().last(), Some("0 passed, 15 failed"));
+    assert_eq!(output.status.code(), Some(1));
+}
+
+#[test]
+fn program_that_writes_other_than_the_file_fails() {
+    let other = ["compare", "writes", "--", REFERENCE, "write-days"];
+    let output = run(&other, &[]);
+    let report = text(&output.stdout);
+    assert!(report.contains("expected 4072 bytes, came "));
+    assert!(report.contains(r#"text "2": expected "R 4 0 0", came "R 1 1 1""#));
+    assert_eq!(output.status.code(), Some(1));
+}
+
+#[test]
+fn program_that_leaves_no_list_written_fails() {
+    let other = ["compare", "historian-write", "--", REFERENCE, "rows"];
+    let output = run(&other, &[]);
+    let report = text(&output.stdout);
+    assert!(report.contains("expected refusal 0, 37 bytes and place 0, came only "));
+    assert_eq!(report.lines().last(), Some("0 passed, 12 failed"));
     assert_eq!(output.status.code(), Some(1));
 }
 
@@ -486,7 +575,7 @@ fn program_that_cannot_start_is_said_in_one_line() {
 
 #[test]
 fn bad_usage_prints_how_to_call() {
-    let bad: [&[&str]; 32] = [
+    let bad: [&[&str]; 38] = [
         &[],
         &["answer"],
         &["answer", "numbers", "more"],
@@ -519,6 +608,12 @@ fn bad_usage_prints_how_to_call() {
         &["days", "more"],
         &["cases", "sheets", "1"],
         &["cases", "sheets", "1", "two"],
+        &["write", "more"],
+        &["write-days", "more"],
+        &["writes"],
+        &["answer", "writes"],
+        &["compare", "writes", "--"],
+        &["compare", "write", "--", REFERENCE, "write"],
     ];
     for arguments in bad {
         let output = run(arguments, &[]);
@@ -532,8 +627,12 @@ fn usage_names_every_command() {
     let output = run(&[], &[]);
     let usage = text(&output.stderr);
     for command in [
-        "reference answer numbers|readings|historian|historian-days\n",
-        "reference compare numbers|readings|historian|historian-days -- PROGRAM [ARGS..]\n",
+        "reference answer numbers|readings|historian|historian-days|historian-write\n",
+        "reference compare numbers|readings -- PROGRAM [ARGS..]\n",
+        "reference compare historian|historian-days|historian-write -- PROGRAM [ARGS..]\n",
+        "reference compare writes|writes-days -- PROGRAM [ARGS..]\n",
+        "reference write\n",
+        "reference write-days\n",
         "reference compare rows -- PROGRAM [ARGS..]\n",
         "reference compare inspections -- PROGRAM [ARGS..]\n",
         "reference compare days -- PROGRAM [ARGS..]\n",

@@ -55,6 +55,13 @@ void block_take(struct block *block, size_t len)
     memset(block->bytes - FRONT_LEN, FRONT_BYTE, FRONT_LEN);
 }
 
+uint64_t *block_take_number(struct block *block, uint64_t number)
+{
+    block_take(block, sizeof number);
+    memcpy(block->bytes, &number, sizeof number);
+    return (uint64_t *)block->bytes;
+}
+
 bool block_front_stayed(const struct block *block)
 {
     if (block->kind == BLOCK_ON_HEAP)

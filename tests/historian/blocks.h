@@ -25,6 +25,9 @@ enum block_kind block_kind_asked(int argc, char **argv);
 /* Gives the block `len` bytes of any content. `block` starts as { .kind = .. }, or was given back. */
 void block_take(struct block *block, size_t len);
 
+/* Gives the block room for one number and sets it; answers where it is. */
+uint64_t *block_take_number(struct block *block, uint64_t number);
+
 /* Whether the bytes before a guarded block are as block_take left them; true on the heap, which others watch. */
 bool block_front_stayed(const struct block *block);
 

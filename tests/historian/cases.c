@@ -57,9 +57,14 @@ static void write_in(size_t bytes, uint64_t number)
         putchar((int)(number >> (BYTE_BITS * i) & BYTE_MASK));
 }
 
-void write_refusal(uint32_t refusal, uint64_t place, uint64_t offset)
+void write_code(uint32_t refusal)
 {
     write_in(REFUSAL_BYTES, refusal);
+}
+
+void write_refusal(uint32_t refusal, uint64_t place, uint64_t offset)
+{
+    write_code(refusal);
     write_number(place);
     write_number(offset);
 }

@@ -15,7 +15,10 @@ void read_bytes(struct block *block, size_t len);
 /* Exits with 1 if a call changed what it must leave alone; `changed` says what, or is NULL. */
 void end_where_changed(const char *changed);
 
-/* Writes what begins every answer: the refusal in four bytes, its place in eight and its offset in eight. */
+/* Writes what begins every answer: the refusal in four bytes. */
+void write_code(uint32_t refusal);
+
+/* Writes what begins the answer of a call that reads: the refusal, then its place and its offset in eight bytes each. */
 void write_refusal(uint32_t refusal, uint64_t place, uint64_t offset);
 
 /* Writes a number in eight bytes. */

@@ -22,14 +22,6 @@ struct one_sheet one_sheet_on(enum block_kind kind)
     return call;
 }
 
-/* Gives the block room for one number and sets it. */
-static uint64_t *take_number(struct block *block, uint64_t before)
-{
-    block_take(block, sizeof before);
-    memcpy(block->bytes, &before, sizeof before);
-    return (uint64_t *)block->bytes;
-}
-
 static const char *what_changed(const struct one_sheet *call, const uint8_t *sheet)
 {
     if (memcmp(call->sheet_block.bytes, sheet, call->sheet_block.len) != 0)
@@ -58,10 +50,10 @@ static void give_back(struct one_sheet *call)
 const char *one_sheet_make(struct one_sheet *call, const uint8_t *sheet, size_t sheet_len)
 {
     uint64_t *figures[FIGURES];
-    uint64_t *place = take_number(&call->place_block, figure_before(PLACE_BEFORE));
-    uint64_t *offset = take_number(&call->offset_block, figure_before(OFFSET_BEFORE));
+    uint64_t *place = block_take_number(&call->place_block, figure_before(PLACE_BEFORE));
+    uint64_t *offset = block_take_number(&call->offset_block, figure_before(OFFSET_BEFORE));
     for (size_t i = 0; i < FIGURES; i++)
-        figures[i] = take_number(&call->figure_blocks[i], figure_before(i));
+        figures[i] = block_take_number(&call->figure_blocks[i], figure_before(i));
     block_take(&call->sheet_block, sheet_len);
     memcpy(call->sheet_block.bytes, sheet, sheet_len);
 

@@ -36,7 +36,7 @@ pub mod ChargesCounted
 pub mod GramsWithin
 pub mod Fits
 -- A file is refused exactly for the first reason that holds, and accepted exactly if none does.
-mod Places
+pub mod Places
 pub mod Order
 -- Every refusal has the offset that is due to its number and place.
 pub mod Offsets

@@ -19,6 +19,8 @@ pub mod Consumed
 pub mod Offsets
 pub mod Fronts
 pub mod OverTheRest
+-- What is written, read again.
+pub mod WrittenFiles
 -- Tests in their order, and those that a reader asks of a file.
 pub mod Testing
 pub mod Asking

@@ -14,3 +14,5 @@ pub mod Spots
 pub mod Reaching
 -- lists of records
 pub mod Lists
+-- a file that is written from a list of numbers
+pub mod Written

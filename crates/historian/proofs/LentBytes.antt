@@ -20,8 +20,9 @@ use Rattle.accounts.proofs.Order.{refused-exactly, accepted-is, accepted-exactl
 use Rattle.accounts.proofs.Numbered.{refusal-numbered}
 use Rattle.period.specs.declared.call.Quantified.{Quantified}
 use Rattle.period.specs.Written.{Lent, lent, rulingVerdict, plantEntries, segmentEntries, overwritten, HandsBack, QuantifyPromise, Left}
-use Rattle.tables.specs.Bytes.{wholeNumbers, tableNumbers, bytesOverwritten}
-use Rattle.tables.proofs.ReadBack.{first-length, numbers-overwritten}
+use Rattle.plain.specs.Bytes.{wholeNumbers, tableNumbers, bytesOverwritten}
+use Rattle.plain.proofs.EightBytes.{first-length}
+use Rattle.tables.proofs.ReadBack.{numbers-overwritten}
 use Rattle.historian.specs.Tables.{entryRuling, Outcome, EntryPromise}
 
 -- ---- a result other than 0, a place and an offset tell the ruling

@@ -8,3 +8,5 @@ pub mod Outcome
 pub mod LentBytes
 -- What a C caller finds of a sheet.
 pub mod SheetFigures
+-- What a C caller's list is refused for, and what its file can be.
+pub mod WrittenLists

@@ -4,6 +4,7 @@ use mathlib.Core.Path.{_≡_, sym, ap, _∙_}
 use mathlib.Core.List.{List}
 use Rattle.meter.specs.declared.figures.Figures.{Figures}
 use Rattle.historian.specs.Tables.{Outcome, EntryPromise}
+use Rattle.historian.specs.Lists.{WriteOutcome, WriteEntryPromise}
 use Rattle.historian.specs.Sheets.{DaysOutcome, leaves, DaysEntryPromise}
 
 -- an outcome by its parts
@@ -27,3 +28,14 @@ one-days-outcome sheet before a b p q =
     ∙ ap (λ (x : ℕ). leaves (b .result) x (a .offset) (a .figures)) (p .place ∙ sym (q .place))
     ∙ ap (λ (x : ℕ). leaves (b .result) (b .place) x (a .figures)) (p .offset ∙ sym (q .offset))
     ∙ ap (leaves (b .result) (b .place) (b .offset)) (p .figures-after ∙ sym (q .figures-after))
+
+-- `steeplecuff_write`: so are two of one list and the same buffer
+abbrev wrote : (result written place : ℕ) (buffer : List ℕ) → WriteOutcome
+wrote result written place buffer = record { result = result; written = written; place = place; buffer = buffer }
+
+pub one-write-outcome : (numbers buffer : List ℕ) (a b : WriteOutcome) → WriteEntryPromise numbers buffer a → WriteEntryPromise numbers buffer b → a ≡ b
+one-write-outcome numbers buffer a b p q =
+    ap (λ (x : ℕ). wrote x (a .written) (a .place) (a .buffer)) (p .result ∙ sym (q .result))
+    ∙ ap (λ (x : ℕ). wrote (b .result) x (a .place) (a .buffer)) (p .written ∙ sym (q .written))
+    ∙ ap (λ (x : ℕ). wrote (b .result) (b .written) x (a .buffer)) (p .place ∙ sym (q .place))
+    ∙ ap (wrote (b .result) (b .written) (b .place)) (p .buffer-after ∙ sym (q .buffer-after))

@@ -18,7 +18,7 @@ use Rattle.settling.specs.Settled.{SettlePromise}
 use Rattle.settling.proofs.HowMany.{few-settled}
 use Rattle.period.specs.Written.{firstRows, plantRowAt, segmentRowAt, withTables, rulingVerdict, plantEntries, segmentEntries}
 use Rattle.period.proofs.Answering.{answer-is, rows-are, room-is}
-use Rattle.tables.specs.Bytes.{wholeNumbers, bytesOverwritten}
+use Rattle.plain.specs.Bytes.{wholeNumbers, bytesOverwritten}
 use Rattle.tables.specs.Rows.{rowsThere, WritePlantsPromise, WriteSegmentsPromise}
 use Rattle.historian.specs.Tables.{entryRuling, EntryPromise}
 

@@ -1,3 +1,4 @@
--- The promises of the two calls from C.
+-- The promises of the three calls from C.
 pub mod Tables
 pub mod Sheets
+pub mod Lists

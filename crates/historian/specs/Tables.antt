@@ -6,7 +6,7 @@ use Rattle.fields.specs.Answers.{refusalNumber, refusalPlace, refusalOffset}
 use Rattle.accounts.specs.Order.{Ruling}
 use Rattle.accounts.specs.Quantified.{quantified}
 use Rattle.period.specs.Written.{rulingVerdict, plantEntries, segmentEntries}
-use Rattle.tables.specs.Bytes.{wholeNumbers, bytesOverwritten}
+use Rattle.plain.specs.Bytes.{wholeNumbers, bytesOverwritten}
 
 -- The ruling on a file, with tables that have as many entries as whole numbers (rules 8.8 and 10.5).
 abbrev pub entryRuling : (file plants segments : List ℕ) → Ruling

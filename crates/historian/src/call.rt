@@ -2,8 +2,8 @@
 ghost use Rattle.historian.specs.Tables.{EntryPromise};
 use fields::Answer;
 use period::answer_with_tables;
+use plain::room;
 use settling::settle;
-use tables::room;
 use tables::write_plants;
 use tables::write_segments;
 

@@ -9,6 +9,7 @@ use Rattle.number.specs.declared.Number.the-variants.{Value, Ends, NotSh
 use Rattle.number.specs.declared.Report.{Report}
 use Rattle.number.specs.Reading.{Found, ends, notShortest}
 use Rattle.number.specs.Reading.Found.{number, fault}
+use Rattle.number.specs.Writing.{SizeOfPromise, WriteAtPromise}
 use Rattle.number.specs.Finding.{finds, ReadAtPromise, NumberRefusalPromise, BytesAtPromise}
 
 -- the answer that says it
@@ -41,3 +42,13 @@ one-refusal found r s p q = p ∙ sym q
 -- `bytes_at`: so does its promise
 pub one-count : (file : List ℕ) (at : ℕ) (r s : ℕ) → BytesAtPromise file at r → BytesAtPromise file at s → r ≡ s
 one-count file at r s p q = p ∙ sym q
+
+-- `size_of`: so does its promise
+pub one-size : (value r s : ℕ) → SizeOfPromise value r → SizeOfPromise value s → r ≡ s
+one-size value r s p q = p ∙ sym q
+
+-- `write_at`: two outcomes, of one value at one byte of one buffer, are the same, the count and the buffer
+pub one-write :
+    (value at : ℕ) (buffer : List ℕ) (r s : ℕ) (after after' : List ℕ) →
+    WriteAtPromise value at buffer r after → WriteAtPromise value at buffer s after' → (r ≡ s) × (after ≡ after')
+one-write value at buffer r s after after' p q = (p .counted ∙ sym (q .counted), p .stands ∙ sym (q .stands))

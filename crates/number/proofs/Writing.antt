@@ -4,19 +4,22 @@ use mathlib.Core.Path.{_≡_, refl, sym, ap, ap₂, _∙_}
 use mathlib.Core.List.{List, [], _∷_, _++_}
 use mathlib.Core.Logic.{_⊎_, inl, inr, ⊎-elim}
 use mathlib.Core.Bool.{false, true≢false}
-use native.Mathlib.Nat.{mod-lt, mod-eq-of-lt, div-lt-iff-lt-mul, pow-suc}
+use native.Mathlib.Nat.{mod-lt, mod-eq-of-lt, div-lt-iff-lt-mul, le-div-iff-mul-le, pow-suc}
 use native.Mathlib.Decide.{decLe, decLt}
 use native.Mathlib.Omega.{arith}
 use lib.ListN.{length, getD, take, drop, take-append-drop, length-drop}
 use lib.Seq.{drop-append-seam, getD-drop, drop-drop, length-take-le}
 use lib.Dec.{lit<}
-use borrow.Author.Tests.{lt-ltb, le-ltb}
-use Rattle.number.specs.Groups.{value, padded, groupBits, radix, group, mostGroups, largest}
+use lib.Pow.{pow-pos}
+use borrow.Author.Tests.{lt-ltb, le-ltb, lt-leb}
+use Rattle.number.specs.Groups.{value, padded, groupBits, radix, group, mostGroups, largest, before, gather}
+use Rattle.number.specs.Groups.Gathering.{long}
 use Rattle.number.specs.Writing.{writing, written, AreBytes}
-use Rattle.number.specs.Reading.{reading, readAt, from}
-use Rattle.number.specs.Reading.Found.{number}
+use Rattle.number.specs.Reading.{reading, readAt, from, formed, foundOf, tooLarge}
+use Rattle.number.specs.Reading.Found.{number, fault}
 use Rattle.number.proofs.Values.{group-more}
-use Rattle.number.proofs.FrontGroups.{Fronts, some}
+use Rattle.number.proofs.Gathering.{gather-more}
+use Rattle.number.proofs.FrontGroups.{Fronts, gathers, some}
 use Rattle.number.proofs.FrontGroups.Fronts.{last-group, group-before}
 use Rattle.number.proofs.Forming.{last, last-behind, padded-zero, padded-single, padded-other}
 use Rattle.number.proofs.Findings.{Reads, reads, front-reads, at-front}
@@ -24,12 +27,12 @@ use Rattle.number.proofs.Laws.{bounds}
 
 -- ---- one group
 -- a number below the radix is one group
-writing-last : (k v : ℕ) → v < radix → writing (suc k) v ≡ v ∷ []
+pub writing-last : (k v : ℕ) → v < radix → writing (suc k) v ≡ v ∷ []
 unfolding writing
 writing-last k v h = rw (lt-ltb v radix h)
 
 -- a larger one is a group that says another follows, and the rest
-writing-more : (k v : ℕ) → radix ≤ v → writing (suc k) v ≡ (radix + group v) ∷ writing k (v / radix)
+pub writing-more : (k v : ℕ) → radix ≤ v → writing (suc k) v ≡ (radix + group v) ∷ writing k (v / radix)
 unfolding writing
 writing-more k v h = rw (le-ltb v radix h)
 
@@ -105,6 +108,62 @@ unfolding readAt
 reads-back-at p v t h =
     ap (λ (s : List ℕ). from (length p) (reading s)) (drop-append-seam p (written v ++ t))
     ∙ ap (from (length p)) (reads-back v t h)
+
+-- ---- a number over the limit is fault 3, whatever follows
+-- one that a given count of groups cannot hold takes all of them, and each says that another follows
+too-many : (k v : ℕ) (t : List ℕ) → 2 ^ (groupBits * k) ≤ v → gather k (writing k v ++ t) ≡ long
+unfolding gather writing
+too-many zero v t large = refl
+too-many (suc k) v t large =
+    let power : 2 ^ (groupBits * suc k) ≡ 2 ^ (groupBits * k) * radix = group-more k in
+    let some : 1 ≤ 2 ^ (groupBits * k) = pow-pos (groupBits * k) in
+    let more : radix ≤ v = omega (arith, power, some, large) in
+    let rest : 2 ^ (groupBits * k) ≤ v / radix = le-div-iff-mul-le {k = radix} (lit< tt) .1 (rw power at large) in
+    rw (writing-more k v more) (gather-more k (radix + v % radix) (writing k (v / radix) ++ t) (omega arith) ∙ ap (before ((radix + v % radix) % radix)) (too-many k (v / radix) t rest))
+
+-- so does every number over the limit that five groups cannot hold; one that they hold is too large by its value
+pub over-the-limit : (v : ℕ) (t : List ℕ) → largest < v → reading (written v ++ t) ≡ fault tooLarge
+unfolding written reading formed
+over-the-limit v t large = by-size (decLt v (2 ^ (groupBits * mostGroups)))
+  where
+    by-size : Dec (v < 2 ^ (groupBits * mostGroups)) → foundOf (gather mostGroups (writing mostGroups v ++ t)) ≡ fault tooLarge
+    by-size (yes small) =
+        let w : Written mostGroups v t = stands-written mostGroups v t (lit< tt) small in
+        ap foundOf (gathers (w .front))
+        ∙ rw (padded-other (w .groups) (w .last-is (omega arith)), lt-leb (value (w .groups)) largest (omega (arith, w .value-is))) refl
+    by-size (no not-small) = ap foundOf (too-many mostGroups v t (omega arith))
+
+-- and wherever it is
+pub over-the-limit-at : (p : List ℕ) (v : ℕ) (t : List ℕ) → largest < v → readAt (p ++ (written v ++ t)) (length p) ≡ fault tooLarge
+unfolding readAt
+over-the-limit-at p v t large =
+    ap (λ (s : List ℕ). from (length p) (reading s)) (drop-append-seam p (written v ++ t))
+    ∙ ap (from (length p)) (over-the-limit v t large)
+
+-- ---- a number takes five bytes at most, and one at least
+most-of : (k v : ℕ) → length (writing k v) ≤ k
+unfolding writing
+most-of zero v = omega arith
+most-of (suc k) v = by-size (decLt v radix) (most-of k (v / radix))
+  where
+    by-size : Dec (v < radix) → length (writing k (v / radix)) ≤ k → length (writing (suc k) v) ≤ suc k
+    by-size (yes small) rest = rw (writing-last k v small) (omega arith)
+    by-size (no large) rest = rw (writing-more k v (omega arith)) (omega (arith, rest))
+
+pub five-bytes : (v : ℕ) → length (written v) ≤ mostGroups
+unfolding written
+five-bytes v = most-of mostGroups v
+
+pub some-byte-of : (k v : ℕ) → 0 < length (writing (suc k) v)
+some-byte-of k v = by-size (decLt v radix)
+  where
+    by-size : Dec (v < radix) → 0 < length (writing (suc k) v)
+    by-size (yes small) = rw (writing-last k v small) (omega arith)
+    by-size (no large) = rw (writing-more k v (omega arith)) (omega arith)
+
+pub some-byte : (v : ℕ) → 0 < length (written v)
+unfolding written
+some-byte v = some-byte-of 4 v
 
 -- ---- what is there is what is written
 -- groups that do not end in a zero group have a value above 0

@@ -4,6 +4,7 @@
 // No law above opens the definitions; worked examples do, to compute.
 pub mod bytes;
 mod groups;
+pub mod shortest;
 
 ghost use Prim.Native.Nat.{_<_};
 ghost use mathlib.Core.Path.{_≡_};
@@ -14,6 +15,8 @@ pub use crate::bytes::bytes_at;
 use crate::groups::Ending;
 use crate::groups::form;
 use crate::groups::gather;
+pub use crate::shortest::size_of;
+pub use crate::shortest::write_at;
 
 // What is at a byte: a number, or one of three faults (rule 1.5).
 pub enum Number {

@@ -1,5 +1,4 @@
--- Numbers as bytes in a table, and rows of them.
-pub mod NumbersInBytes
+-- Rows in a table of bytes.
 pub mod RowsInBytes
 -- A table of bytes, read as numbers.
 pub mod ReadBack

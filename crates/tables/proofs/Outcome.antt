@@ -4,12 +4,7 @@ use mathlib.Core.Path.{_≡_, sym, _∙_}
 use mathlib.Core.List.{List}
 use Rattle.settling.specs.declared.account.PlantAccounts.{PlantAccounts}
 use Rattle.settling.specs.declared.account.SegmentAccounts.{SegmentAccounts}
-use Rattle.tables.specs.Bytes.{RoomPromise}
 use Rattle.tables.specs.Rows.{WritePlantsPromise, WriteSegmentsPromise}
-
--- `room`
-pub one-room : (bytes r s : ℕ) → RoomPromise bytes r → RoomPromise bytes s → r ≡ s
-one-room bytes r s p q = p ∙ sym q
 
 -- `write_plants` and `write_segments`: the table afterwards, of the same accounts, count and table before
 pub one-plant-table :

@@ -8,29 +8,11 @@ use lib.ListN.{length, drop, length-append, length-drop}
 use lib.Seq.{take-at, drop-at, drop-drop}
 use Rattle.accounts.specs.RowsAndColumns.{entryBits, Entries}
 use Rattle.period.specs.Written.{overwritten}
-use Rattle.tables.specs.Bytes.{numberBytes, byteValues, wholeNumbers, bytesOf, eightBytes, valueOf, firstNumbers, tableNumbers, bytesOverwritten}
-use Rattle.tables.proofs.NumbersInBytes.{length-bytes, length-all}
-
--- ---- one number: what is written is read back
-value-of-bytes : (count number : ℕ) → number < byteValues ^ count → valueOf (bytesOf count number) ≡ number
-unfolding valueOf bytesOf
-value-of-bytes zero number small = omega (arith, small)
-value-of-bytes (suc count) number small =
-    let higher : number / byteValues < byteValues ^ count =
-    div-lt-iff-lt-mul {k = byteValues} (omega arith) .1 (rw (pow-suc byteValues count) at small) in
-    rw (value-of-bytes count (number / byteValues) higher) (mod-add-div number byteValues)
-
--- eight bytes are enough for a 64-bit number
-pub value-of-eight : (number : ℕ) → number < 2 ^ entryBits → valueOf (eightBytes number) ≡ number
-value-of-eight number small = value-of-bytes numberBytes number small
+use Rattle.plain.specs.Bytes.{numberBytes, byteValues, wholeNumbers, bytesOf, eightBytes, valueOf, firstNumbers, tableNumbers, bytesOverwritten}
+use Rattle.plain.proofs.EightBytes.{length-bytes, value-of-eight}
+use Rattle.plain.proofs.NumbersInBytes.{length-all}
 
 -- ---- a table
--- it has as many numbers as are asked for
-pub first-length : (count : ℕ) (table : List ℕ) → length (firstNumbers count table) ≡ count
-unfolding firstNumbers
-first-length zero table = refl
-first-length (suc count) table = ap suc (first-length count (drop numberBytes table))
-
 -- those that are written at its start come first, and then the numbers of what stands behind them
 numbers-in-front :
     (numbers behind : List ℕ) (left count : ℕ) → Entries numbers → length numbers + left ≡ count →

@@ -7,8 +7,8 @@ use lib.ListN.{length, take, drop}
 use Rattle.fields.specs.Tests.{listed}
 use Rattle.period.specs.Written.{firstRows}
 use Rattle.period.proofs.RowsWritten.{Writing, writing-start, writing-on, writing-end, rows-on, rows-length}
-use Rattle.tables.specs.Bytes.{numberBytes, eightBytes, bytesOverwritten}
-use Rattle.tables.proofs.NumbersInBytes.{length-all, bytes-of-both}
+use Rattle.plain.specs.Bytes.{numberBytes, eightBytes, bytesOverwritten}
+use Rattle.plain.proofs.NumbersInBytes.{length-all, bytes-of-both}
 
 -- of `count` rows, each of `numbers` numbers, the bytes of k are written
 abbrev pub RowsInBytes : (numbers : ℕ) (row : ℕ → List ℕ) (count : ℕ) (entry table : List ℕ) (k : ℕ) → Type 0

@@ -1,3 +1,2 @@
--- Numbers in bytes, and the rows that are written so.
-pub mod Bytes
+-- The rows that are written into a table of bytes.
 pub mod Rows

@@ -9,7 +9,7 @@ use Rattle.accounts.specs.Order.{plantNumbers, segmentNumbers}
 use Rattle.settling.specs.declared.account.PlantAccounts.{PlantAccounts}
 use Rattle.settling.specs.declared.account.SegmentAccounts.{SegmentAccounts}
 use Rattle.period.specs.Written.{firstRows, plantRowAt, segmentRowAt}
-use Rattle.tables.specs.Bytes.{numberBytes, bytesOverwritten}
+use Rattle.plain.specs.Bytes.{numberBytes, bytesOverwritten}
 
 -- How many rows of `numbers` numbers are written: those that are asked for, as far as there are accounts and room (rule 10.5).
 abbrev pub rowsThere : (asked most numbers : ℕ) → List ℕ → ℕ

@@ -2,12 +2,12 @@
 ghost use mathlib.Core.Path.{_≡_};
 ghost use Prim.Native.Nat.{min};
 ghost use Rattle.tables.specs.Rows.{WritePlantsPromise, WriteSegmentsPromise};
-use crate::bytes::NUMBER_BYTES;
-use crate::bytes::write_row;
 use period::PLANT_NUMBERS;
 use period::SEGMENT_NUMBERS;
 use period::plant_row;
 use period::segment_row;
+use plain::NUMBER_BYTES;
+use plain::write_row;
 use records::Plant;
 use records::Segment;
 use settling::PlantAccounts;

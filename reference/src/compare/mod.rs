@@ -5,6 +5,7 @@ pub mod one_run;
 pub mod program;
 pub mod starts;
 pub mod tally;
+pub mod writes;
 
 use crate::questions::Suite;
 use comparison::Comparison;

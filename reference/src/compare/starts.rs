@@ -27,16 +27,19 @@ pub fn compare_starts<F: FileToPrint>(files: &[F], program: &Program) -> io::Res
     Ok(comparison)
 }
 
-/// What is wrong with the output, if anything. The program may exit with any status, as long as it
-/// exits by itself.
+/// What is wrong with the output, if anything.
 fn difference(expected: &str, output: &Output) -> Option<String> {
+    ended_badly(output).or_else(|| first_line_that_differs(expected.as_bytes(), &output.stdout))
+}
+
+/// What is wrong with how the program ended, whatever it printed. It may exit with any status, as
+/// long as it exits by itself, and says nothing on standard error.
+pub fn ended_badly(output: &Output) -> Option<String> {
     if output.status.code().is_none() {
         return Some(format!("the program was ended, {}", output.status));
     }
-    if let Some(line) = lines_of(&output.stderr).next() {
-        return Some(format!("standard error is not empty: {}", shown_line(line)));
-    }
-    first_line_that_differs(expected.as_bytes(), &output.stdout)
+    let line = lines_of(&output.stderr).next()?;
+    Some(format!("standard error is not empty: {}", shown_line(line)))
 }
 
 /// The first line that differs in words, nothing if the texts are equal.

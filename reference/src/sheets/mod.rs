@@ -2,9 +2,9 @@
 
 mod case;
 pub mod figures;
-mod files;
+pub mod files;
 pub mod historian;
 pub mod printed;
 pub mod seeded;
-mod sheet;
+pub mod sheet;
 mod worked;

@@ -3,18 +3,12 @@
 
 use super::table_bytes::{TableBytes, NUMBER_BYTES};
 use crate::frames::split;
+use crate::lent_bytes::{first_difference, Pattern};
 use crate::periods::accounts::account;
 use crate::questions::Answer;
 use crate::verdict::Verdict;
 
-/// The bytes of a table before the call, by which those that the call leaves alone are recognised.
-struct Pattern {
-    /// The first byte.
-    first: u8,
-    /// What each byte is larger by than the one before, turning over.
-    step: u8,
-}
-
+/// What the tables are before the call.
 const PLANT_PATTERN: Pattern = Pattern {
     first: 90,
     step: 17,
@@ -23,19 +17,6 @@ const SEGMENT_PATTERN: Pattern = Pattern {
     first: 165,
     step: 29,
 };
-
-impl Pattern {
-    /// A table of `length` bytes, as it is before the call.
-    fn table(&self, length: usize) -> Vec<u8> {
-        let mut next = self.first;
-        let mut table = Vec::with_capacity(length);
-        for _ in 0..length {
-            table.push(next);
-            next = next.wrapping_add(self.step);
-        }
-        table
-    }
-}
 
 /// What a call leaves.
 #[derive(Debug, PartialEq, Eq)]
@@ -51,8 +32,8 @@ impl Returned {
         let accounted = account(file, tables.whole_numbers());
         let before = Returned {
             verdict: Verdict::of(&accounted),
-            plant_table: PLANT_PATTERN.table(tables.plant),
-            segment_table: SEGMENT_PATTERN.table(tables.segment),
+            plant_table: PLANT_PATTERN.bytes(tables.plant),
+            segment_table: SEGMENT_PATTERN.bytes(tables.segment),
         };
         match accounted {
             Ok(rows) => Returned {
@@ -91,15 +72,6 @@ fn written_over(mut table: Vec<u8>, numbers: &[u64]) -> Vec<u8> {
         entry.copy_from_slice(&number.to_le_bytes());
     }
     table
-}
-
-/// The first byte of a table that differs, in words.
-fn first_difference(table: &str, expected: &[u8], came: &[u8]) -> Option<String> {
-    let place = (0..expected.len()).find(|&place| expected[place] != came[place])?;
-    Some(format!(
-        "{table} first differs at byte {place}: expected {:02X}, came {:02X}",
-        expected[place], came[place]
-    ))
 }
 
 impl Answer for Returned {
@@ -146,8 +118,8 @@ mod tests {
                 .map(|place| ((step * place + first) % 256) as u8)
                 .collect()
         };
-        assert_eq!(PLANT_PATTERN.table(600), by_formula(90, 17));
-        assert_eq!(SEGMENT_PATTERN.table(600), by_formula(165, 29));
+        assert_eq!(PLANT_PATTERN.bytes(600), by_formula(90, 17));
+        assert_eq!(SEGMENT_PATTERN.bytes(600), by_formula(165, 29));
     }
 
     #[test]
@@ -160,11 +132,11 @@ mod tests {
             returned.plant_table[..64],
             numbers(&[3, 2, 1, 0, 0, 0, 0, 0])
         );
-        assert_eq!(returned.plant_table[64..], PLANT_PATTERN.table(67)[64..]);
+        assert_eq!(returned.plant_table[64..], PLANT_PATTERN.bytes(67)[64..]);
         assert_eq!(returned.segment_table[..40], numbers(&[3, 2, 1, 0, 1]));
         assert_eq!(
             returned.segment_table[40..],
-            SEGMENT_PATTERN.table(49)[40..]
+            SEGMENT_PATTERN.bytes(49)[40..]
         );
     }
 
@@ -174,8 +146,8 @@ mod tests {
             let returned = left_by(&SMALLEST, plant, segment);
             let verdict = format!("refusal {refusal}, place {place} and offset 10");
             assert_eq!(returned.verdict.to_string(), verdict);
-            assert_eq!(returned.plant_table, PLANT_PATTERN.table(plant));
-            assert_eq!(returned.segment_table, SEGMENT_PATTERN.table(segment));
+            assert_eq!(returned.plant_table, PLANT_PATTERN.bytes(plant));
+            assert_eq!(returned.segment_table, SEGMENT_PATTERN.bytes(segment));
         }
     }
 

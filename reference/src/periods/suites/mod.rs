@@ -3,8 +3,8 @@
 pub mod bytes;
 mod damaged_files;
 mod full_size;
-mod limits;
-mod values;
+pub mod limits;
+pub mod values;
 pub mod whole_files;
 
 use super::captured::all_files;

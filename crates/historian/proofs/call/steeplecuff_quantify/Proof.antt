@@ -6,7 +6,7 @@ use denote.Ref.{now}
 use borrow.Author.Needs.{needs}
 use Rattle.fields.specs.Answers.{said}
 use Rattle.period.specs.Written.{withTables}
-use Rattle.tables.specs.Bytes.{wholeNumbers}
+use Rattle.plain.specs.Bytes.{wholeNumbers}
 use Rattle.historian.proofs.Tables.{entry-refuses, entry-accepts}
 use Rattle.historian.proofs.call.steeplecuff_quantify.Statement.{statement}
 use Rattle.historian.proofs.call.steeplecuff_quantify.Tie as tie

@@ -9,6 +9,7 @@ use Rattle.records.specs.Plants.{mostPlants}
 use Rattle.accounts.specs.Order.{plantNumbers}
 use Rattle.period.specs.Written.{plantRowAt}
 use Rattle.period.proofs.RowsWritten.{writing-length, writing-room}
+use Rattle.plain.proofs.NumbersInBytes.{row-there}
 use Rattle.tables.specs.Rows.{rowsThere}
 use Rattle.tables.proofs.RowsInBytes.{RowsInBytes, bytes-start, bytes-on, bytes-end}
 use Rattle.tables.proofs.rows.write_plants.Statement.{statement}
@@ -63,10 +64,7 @@ slice-aggregate-write-row : tie.Need-slice-aggregate-write-row Inv-loop μ-loop
 slice-aggregate-write-row c = search needs
 
 write-row-requires : tie.Need-write-row-requires Inv-loop μ-loop
-write-row-requires c κs =
-    let made = c .before .before in
-    let turn = made .before .before .before .before .before in
-    rw (made .plant-row .ensures) (writing-room (turn .before .loop .inv) (turn .loop-test .taken))
+write-row-requires c κs = tt
 
 add-p : tie.Need-add-p Inv-loop μ-loop
 add-p c = omega arith
@@ -79,7 +77,8 @@ loop-again c =
     let written = c .before .before in
     let made = written .before .before .before in
     let turn = made .before .before .before .before .before in
-    bytes-on plantNumbers _ (λ i. refl) (turn .before .loop .inv) (turn .loop-test .taken) _ (rw (made .plant-row .ensures) at (written .write-row .ensures))
+    bytes-on plantNumbers _ (λ i. refl) (turn .before .loop .inv) (turn .loop-test .taken) _
+    (row-there _ _ _ _ (writing-room (turn .before .loop .inv) (turn .loop-test .taken)) (rw (made .plant-row .ensures) at (written .write-row .ensures)))
 
 same-length : tie.Need-same-length Inv-loop μ-loop
 same-length c = writing-length (c .before .loop .inv)

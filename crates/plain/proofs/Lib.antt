@@ -1,0 +1,5 @@
+-- Plain numbers in bytes: written, and read back.
+pub mod EightBytes
+pub mod NumbersInBytes
+-- No two outcomes meet a promise.
+pub mod Outcome

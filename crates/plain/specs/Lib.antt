@@ -1,0 +1,2 @@
+-- Plain numbers in bytes.
+pub mod Bytes

@@ -1,0 +1,13 @@
+-- The sheet of every list that is accepted has room: so there is no 14.
+use Prim.Native.Nat.{ℕ, _≤_}
+use mathlib.Core.List.{List}
+use native.Mathlib.Nat.{le-trans}
+use Rattle.fields.specs.Written.{fileOf}
+use Rattle.meter.specs.Sheets.{sheet, sheetFile, mostSheetBytes}
+use Rattle.meter.proofs.Longest.{no-longer}
+use Rattle.typed.specs.Text.{numbersIn}
+use Rattle.typing.proofs.TextHeld.{Fits}
+
+pub sheet-fits : (text : List ℕ) (room : ℕ) → mostSheetBytes ≤ room → Fits sheet text room
+unfolding sheetFile
+sheet-fits text room enough what place at e = le-trans (no-longer (fileOf (numbersIn text)) what place at e) enough

@@ -1,0 +1,3 @@
+-- The promises of writing, and what the private functions say to each other.
+pub mod Written
+pub mod Inside
