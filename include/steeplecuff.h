@@ -194,8 +194,8 @@ uint32_t steeplecuff_days(const uint8_t *sheet, size_t sheet_len, uint64_t *sum,
                           uint64_t *offset);
 
 /*
- * Writes the file of one period. Answers one of steeplecuff_answer and sets *written and *place: to the bytes written and
- * 0 if the list is accepted, else to 0 and the place of the fault.
+ * Writes the file of one period (rules 15.1 to 15.8). Answers one of steeplecuff_answer and sets *written and *place: to
+ * the bytes written and 0 if the list is accepted, else to 0 and the place of the fault.
  *
  * In:   numbers[0 .. numbers_len - 1], the numbers of the period in the order of its file (rule 2.2): header, plants,
  *       segments, lines. Each has eight bytes, least significant first, at any alignment. A length that is no multiple of
@@ -214,7 +214,7 @@ uint32_t steeplecuff_days(const uint8_t *sheet, size_t sheet_len, uint64_t *sum,
  *
  * Like the other calls, this one keeps nothing from one call to the next and has no global state: threads may make all
  * three at the same time, each with a buffer, a count and a place of its own, also on the same list. It allocates nothing,
- * calls nothing back and returns for every input.
+ * calls nothing back and returns for every input. It uses some 350 bytes of stack (docs/PERFORMANCE.md).
  */
 uint32_t steeplecuff_write(const uint8_t *numbers, size_t numbers_len, uint8_t *buffer, size_t buffer_len,
                            uint64_t *written, uint64_t *place);

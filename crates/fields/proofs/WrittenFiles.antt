@@ -14,7 +14,8 @@ use Rattle.number.specs.Reading.{Found, readAt, offsetAt, ends, tooLarge}
 use Rattle.number.specs.Reading.Found.{number as oneNumber, fault as oneFault}
 use Rattle.number.specs.Writing.{written, AreBytes}
 use Rattle.number.proofs.Laws.{past-end, bounds}
-use Rattle.number.proofs.Writing.{reads-back-at, over-the-limit-at, some-byte, five-bytes, one-form}
+use Rattle.number.proofs.Writing.{reads-back-at, over-the-limit-at, one-form}
+use Rattle.number.proofs.WrittenSizes.{some-byte, five-bytes}
 use Rattle.fields.specs.declared.reason.Reason.{Reason}
 use Rattle.fields.specs.declared.reason.Reason.the-variants.{BytesAfter}
 use Rattle.fields.specs.Reasons.{numberOf}

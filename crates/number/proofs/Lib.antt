@@ -4,6 +4,7 @@ pub mod Counting
 -- The bytes that belong to a number.
 pub mod OwnBytes
 pub mod Writing
+pub mod WrittenSizes
 pub mod WrittenOut
 pub mod Outcome
 pub mod Examples

@@ -140,31 +140,6 @@ over-the-limit-at p v t large =
     ap (λ (s : List ℕ). from (length p) (reading s)) (drop-append-seam p (written v ++ t))
     ∙ ap (from (length p)) (over-the-limit v t large)
 
--- ---- a number takes five bytes at most, and one at least
-most-of : (k v : ℕ) → length (writing k v) ≤ k
-unfolding writing
-most-of zero v = omega arith
-most-of (suc k) v = by-size (decLt v radix) (most-of k (v / radix))
-  where
-    by-size : Dec (v < radix) → length (writing k (v / radix)) ≤ k → length (writing (suc k) v) ≤ suc k
-    by-size (yes small) rest = rw (writing-last k v small) (omega arith)
-    by-size (no large) rest = rw (writing-more k v (omega arith)) (omega (arith, rest))
-
-pub five-bytes : (v : ℕ) → length (written v) ≤ mostGroups
-unfolding written
-five-bytes v = most-of mostGroups v
-
-pub some-byte-of : (k v : ℕ) → 0 < length (writing (suc k) v)
-some-byte-of k v = by-size (decLt v radix)
-  where
-    by-size : Dec (v < radix) → 0 < length (writing (suc k) v)
-    by-size (yes small) = rw (writing-last k v small) (omega arith)
-    by-size (no large) = rw (writing-more k v (omega arith)) (omega arith)
-
-pub some-byte : (v : ℕ) → 0 < length (written v)
-unfolding written
-some-byte v = some-byte-of 4 v
-
 -- ---- what is there is what is written
 -- groups that do not end in a zero group have a value above 0
 positive : (gs : List ℕ) → (last gs ≡ 0 → ⊥) → 0 < value gs

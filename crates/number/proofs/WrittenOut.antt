@@ -12,7 +12,8 @@ use lib.Dec.{leb}
 use borrow.Author.Tests.{le-leb, lt-leb}
 use Rattle.number.specs.Groups.{mostGroups, radix, group}
 use Rattle.number.specs.Writing.{writing, written, fitted, WriteAtPromise}
-use Rattle.number.proofs.Writing.{writing-last, writing-more, some-byte-of, five-bytes}
+use Rattle.number.proofs.Writing.{writing-last, writing-more}
+use Rattle.number.proofs.WrittenSizes.{some-byte-of, five-bytes}
 
 -- ---- how many bytes: n groups are counted, and the rest is still to be
 pub record Counted (value rest n : ℕ) : Type 0 where

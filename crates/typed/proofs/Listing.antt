@@ -11,7 +11,7 @@ use Rattle.plain.specs.Bytes.{numberBytes, wholeNumbers, eightBytes, bytesOverw
 use Rattle.plain.proofs.EightBytes.{written-between}
 use Rattle.plain.proofs.NumbersInBytes.{length-all, bytes-last}
 use Rattle.typed.specs.Text.{State, between, within, remark, ending}
-use Rattle.typed.specs.Promises.{listed}
+use Rattle.typed.specs.Promises.{listWith}
 use Rattle.typed.specs.Inside.{endingListed}
 
 -- ---- numbers written over a list that has room for them
@@ -38,21 +38,21 @@ overwritten-on numbers list number fits =
     ∙ rw (take-at front back at (length-all numbers), behind, bytes-last numbers number) refl
 
 -- ---- as many as there is room for
-pub listed-length : (numbers list : List ℕ) → length (listed numbers list) ≡ length list
+pub listed-length : (numbers list : List ℕ) → length (listWith numbers list) ≡ length list
 listed-length numbers list =
     overwritten-length (take (wholeNumbers list) numbers) list (omega (arith, length-take (wholeNumbers list) numbers))
 
 -- none leaves the list as it is
-pub listed-none : (list : List ℕ) → listed [] list ≡ list
+pub listed-none : (list : List ℕ) → listWith [] list ≡ list
 unfolding flatMap
 listed-none list = rw (take-nil (wholeNumbers list)) refl
 
 -- one more
 listed-on :
-    (numbers list : List ℕ) (number : ℕ) → plainWritten (listed numbers list) (numberBytes * length numbers) number ≡ listed (numbers ++ (number ∷ [])) list
+    (numbers list : List ℕ) (number : ℕ) → plainWritten (listWith numbers list) (numberBytes * length numbers) number ≡ listWith (numbers ++ (number ∷ [])) list
 listed-on numbers list number = by-room (decLt (length numbers) (wholeNumbers list))
   where
-    by-room : Dec (length numbers < wholeNumbers list) → plainWritten (listed numbers list) (numberBytes * length numbers) number ≡ listed (numbers ++ (number ∷ [])) list
+    by-room : Dec (length numbers < wholeNumbers list) → plainWritten (listWith numbers list) (numberBytes * length numbers) number ≡ listWith (numbers ++ (number ∷ [])) list
     by-room (yes room) =
         rw (
           take-all (wholeNumbers list) numbers (omega arith),
@@ -62,12 +62,12 @@ listed-on numbers list number = by-room (decLt (length numbers) (wholeNumbers li
     by-room (no none) =
         rw (
           take-append-le (wholeNumbers list) numbers (number ∷ []) (omega (arith, none)),
-          lt-leb (numberBytes * length numbers + numberBytes) (length (listed numbers list)) (omega (arith, none, listed-length numbers list)),
+          lt-leb (numberBytes * length numbers + numberBytes) (length (listWith numbers list)) (omega (arith, none, listed-length numbers list)),
         )
         refl
 
 -- the number that a state is within, if there is one
-pub ending-listed : (state : State) (numbers list : List ℕ) → endingListed state (listed numbers list) (length numbers) ≡ listed (numbers ++ ending state) list
+pub ending-listed : (state : State) (numbers list : List ℕ) → endingListed state (listWith numbers list) (length numbers) ≡ listWith (numbers ++ ending state) list
 ending-listed between numbers list = rw (append-nil numbers) refl
 ending-listed (within value) numbers list = listed-on numbers list value
 ending-listed remark numbers list = rw (append-nil numbers) refl

@@ -6,7 +6,7 @@ use mathlib.Core.List.{List, [], _∷_, _++_, append-assoc, append-nil}
 use native.Mathlib.Omega.{arith}
 use lib.ListN.{length, getD, drop, length-append, drop-of-length-le}
 use Rattle.typed.specs.Text.{State, between, within, remark, isDigit, startsRemark, endsLine, after, opened, ending, endedBy, numbersFrom, numbersIn}
-use Rattle.typed.specs.Promises.{listed}
+use Rattle.typed.specs.Promises.{listWith}
 use Rattle.typed.specs.Inside.{AllListed, endingListed, endedListed}
 use Rattle.typed.proofs.NextByte.{next-byte}
 use Rattle.typed.proofs.Listing.{listed-none, ending-listed}
@@ -38,10 +38,10 @@ ended-room remark byte = by-kind (isDigit byte) (endsLine byte)
 -- ---- the number that a byte ends
 ended-listed :
     (state : State) (byte : ℕ) (numbers list : List ℕ) →
-    endedListed state byte (listed numbers list) (length numbers) ≡ listed (numbers ++ endedBy state byte) list
+    endedListed state byte (listWith numbers list) (length numbers) ≡ listWith (numbers ++ endedBy state byte) list
 ended-listed state byte numbers list = by-kind (isDigit byte)
   where
-    by-kind : (d : Bool) → cond d (listed numbers list) (endingListed state (listed numbers list) (length numbers)) ≡ listed (numbers ++ cond d [] (ending state)) list
+    by-kind : (d : Bool) → cond d (listWith numbers list) (endingListed state (listWith numbers list) (length numbers)) ≡ listWith (numbers ++ cond d [] (ending state)) list
     by-kind true = rw (append-nil numbers) refl
     by-kind false = ending-listed state numbers list
 
@@ -52,7 +52,7 @@ pub record SoFarListed (text list : List ℕ) (list' : List ℕ) (state : State)
   pub done : List ℕ
   pub numbers-are : numbersIn text ≡ done ++ numbersFrom state (drop i text)
   pub counted : count ≡ length done
-  pub written : list' ≡ listed done list
+  pub written : list' ≡ listWith done list
 
 -- before the first turn there is none
 pub none-listed : (text list : List ℕ) → SoFarListed text list list between 0 0

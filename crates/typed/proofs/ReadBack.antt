@@ -8,7 +8,7 @@ use lib.Seq.{take-all, take-at, drop-at, drop-drop, getD-take}
 use Rattle.plain.specs.Bytes.{numberBytes, wholeNumbers, eightBytes, valueOf, firstNumbers, tableNumbers}
 use Rattle.plain.proofs.EightBytes.{length-bytes, value-of-eight, table-at}
 use Rattle.typed.specs.Text.{numbersIn}
-use Rattle.typed.specs.Promises.{listed}
+use Rattle.typed.specs.Promises.{listWith}
 use Rattle.plain.proofs.NumbersInBytes.{length-all}
 use Rattle.typed.proofs.Listing.{listed-length}
 use Rattle.typed.proofs.WithinLimit.{numbers-fit}
@@ -33,10 +33,10 @@ eight-at (number ∷ numbers) rest (suc index) below =
 -- each that has room in the list, and fits 64 bits, is the one at its index
 listed-at :
     (numbers list : List ℕ) (index : ℕ) → index < wholeNumbers list → index < length numbers → getD numbers index 0 < 2 ^ 64 →
-    getD (tableNumbers (listed numbers list)) index 0 ≡ getD numbers index 0
+    getD (tableNumbers (listWith numbers list)) index 0 ≡ getD numbers index 0
 listed-at numbers list index room below small =
     let first : List ℕ = take (wholeNumbers list) numbers in
-    table-at (listed numbers list) index (omega (arith, room, listed-length numbers list))
+    table-at (listWith numbers list) index (omega (arith, room, listed-length numbers list))
     ∙ ap valueOf
     (eight-at first (drop (numberBytes * length first) list) index (omega (arith, room, below, length-take (wholeNumbers list) numbers))
     ∙ ap eightBytes (getD-take (wholeNumbers list) numbers index 0 room))
@@ -45,7 +45,7 @@ listed-at numbers list index room below small =
 -- Each number of a text that has room in the list is the one that the list has at its index (rules 10.5 and 16.2).
 pub text-read-back :
     (text list : List ℕ) (index : ℕ) → index < wholeNumbers list → index < length (numbersIn text) →
-    getD (tableNumbers (listed (numbersIn text) list)) index 0 ≡ getD (numbersIn text) index 0
+    getD (tableNumbers (listWith (numbersIn text) list)) index 0 ≡ getD (numbersIn text) index 0
 text-read-back text list index room below = listed-at (numbersIn text) list index room below (numbers-fit text index)
 
 -- ---- all of them
@@ -66,11 +66,11 @@ all-back (number ∷ numbers) fit =
 -- A list that has room for all numbers of a text has them at its start (rules 10.5 and 16.2).
 pub all-read-back :
     (text list : List ℕ) → length (numbersIn text) ≤ wholeNumbers list →
-    tableNumbers (take (numberBytes * length (numbersIn text)) (listed (numbersIn text) list)) ≡ numbersIn text
+    tableNumbers (take (numberBytes * length (numbersIn text)) (listWith (numbersIn text) list)) ≡ numbersIn text
 all-read-back text list room =
     let numbers : List ℕ = numbersIn text in
     let bytes : List ℕ = flatMap eightBytes numbers in
-    let front : take (numberBytes * length numbers) (listed numbers list) ≡ bytes =
+    let front : take (numberBytes * length numbers) (listWith numbers list) ≡ bytes =
     rw (take-all (wholeNumbers list) numbers room) (take-at bytes (drop (numberBytes * length numbers) list) (numberBytes * length numbers) (length-all numbers)) in
     let as-many : length bytes / numberBytes ≡ length numbers = omega (arith, length-all numbers) in
     ap tableNumbers front ∙ ap (λ (n : ℕ). firstNumbers n bytes) as-many ∙ all-back numbers (numbers-fit text)

@@ -10,7 +10,7 @@ use lib.Dec.{ltb}
 use lib.ListN.{getD}
 use borrow.Author.Tests.{ltb-true, ltb-false, lt-ltb}
 use Rattle.number.specs.Groups.{largest}
-use Rattle.typed.specs.Text.{State, between, within, remark, digitZero, digitNine, ten, isDigit, startsRemark, endsLine, grown, opened, after, ending, numbersFrom, numbersIn}
+use Rattle.typed.specs.Text.{State, between, within, remark, firstDigit, lastDigit, decimalBase, isDigit, startsRemark, endsLine, grown, opened, after, ending, numbersFrom, numbersIn}
 use Rattle.typed.proofs.Digits.{digit-bounds}
 
 -- ---- the decimal value of digits, however large
@@ -22,18 +22,18 @@ pub data AreDigits : List ℕ → Type 0 where
 -- their value, behind digits that have a value
 unfoldable pub decimalBehind : (before : ℕ) (digits : List ℕ) → ℕ
 decimalBehind before [] = before
-decimalBehind before (byte ∷ digits) = decimalBehind (ten * before + (byte - digitZero)) digits
+decimalBehind before (byte ∷ digits) = decimalBehind (decimalBase * before + (byte - firstDigit)) digits
 
 -- a value is exact, or both are over the limit
 abbrev pub ExactOrOver : (value exact : ℕ) → Type 0
 ExactOrOver value exact = (value ≡ exact) ⊎ ((largest < value) × (largest < exact))
 
 -- it stays so with one digit more
-grown-exact : (value exact byte : ℕ) → ExactOrOver value exact → ExactOrOver (grown value byte) (ten * exact + (byte - digitZero))
+grown-exact : (value exact byte : ℕ) → ExactOrOver value exact → ExactOrOver (grown value byte) (decimalBase * exact + (byte - firstDigit))
 grown-exact value exact byte (inr over) = rw (lt-ltb largest value (over .0)) (inr (over .0, omega (arith, over .1)))
 grown-exact value exact byte (inl same) = by-limit (ltb largest value) refl
   where
-    by-limit : (t : Bool) → ltb largest value ≡ t → ExactOrOver (grown value byte) (ten * exact + (byte - digitZero))
+    by-limit : (t : Bool) → ltb largest value ≡ t → ExactOrOver (grown value byte) (decimalBase * exact + (byte - firstDigit))
     by-limit true over = rw over (inr (ltb-true largest value over, omega (arith, ltb-true largest value over)))
     by-limit false small = rw (small, same) (inl refl)
 
@@ -47,18 +47,18 @@ digits-within : (value exact : ℕ) (digits : List ℕ) → ExactOrOver value ex
 unfolding numbersFrom after decimalBehind
 digits-within value exact [] same none = record { value = value; only = refl; as-typed = same }
 digits-within value exact (byte ∷ digits) same (more is others) =
-    rw is (digits-within (grown value byte) (ten * exact + (byte - digitZero)) digits (grown-exact value exact byte same) others)
+    rw is (digits-within (grown value byte) (decimalBase * exact + (byte - firstDigit)) digits (grown-exact value exact byte same) others)
 
 -- A run of digits is read as its decimal value; if that is over the limit, as some value over the limit (rule 16.2).
 pub digits-read : (byte : ℕ) (digits : List ℕ) → AreDigits (byte ∷ digits) → OneNumber (numbersIn (byte ∷ digits)) (decimalBehind 0 (byte ∷ digits))
 unfolding numbersFrom after decimalBehind
 digits-read byte digits (more is others) =
-    rw is (digits-within (grown 0 byte) (ten * 0 + (byte - digitZero)) digits (grown-exact 0 0 byte (inl refl)) others)
+    rw is (digits-within (grown 0 byte) (decimalBase * 0 + (byte - firstDigit)) digits (grown-exact 0 0 byte (inl refl)) others)
 
 -- ---- no value is much over the limit
 -- the most that one digit more makes of a value within it
 abbrev pub mostTyped : ℕ
-mostTyped = ten * largest + (digitNine - digitZero)
+mostTyped = decimalBase * largest + (lastDigit - firstDigit)
 
 -- a state's value is no more
 abbrev Small : State → Type 0

@@ -8,7 +8,7 @@ use Rattle.plain.specs.Bytes.{numberBytes, plainWritten}
 use Rattle.typed.specs.declared.scan.Scan.{Scan}
 use Rattle.typed.specs.declared.scan.Scan.the-variants.{Between, Within, Remark}
 use Rattle.typed.specs.Text.{State, between, within, remark, isDigit, numbersIn}
-use Rattle.typed.specs.Promises.{listed}
+use Rattle.typed.specs.Promises.{listWith}
 
 -- The state that the code's value says.
 abbrev pub stateOf : Scan → State
@@ -29,4 +29,4 @@ endedListed state byte list index = cond (isDigit byte) list (endingListed state
 -- All numbers of a text are counted and listed.
 pub record AllListed (text list : List ℕ) (count : ℕ) (list' : List ℕ) : Type 0 where
   pub counted : count ≡ length (numbersIn text)
-  pub written : list' ≡ listed (numbersIn text) list
+  pub written : list' ≡ listWith (numbersIn text) list

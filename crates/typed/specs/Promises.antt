@@ -15,13 +15,13 @@ abbrev pub answerTo : (text : List ℕ) → Typed
 answerTo text = cond (ltb (firstStray text) (length text)) (Stray (firstStray text)) (Numbers (length (numbersIn text)))
 
 -- Numbers from the start of a list of plain ones on, as many as it has room for; what stands behind them stays (rule 10.5).
-abbrev pub listed : (numbers list : List ℕ) → List ℕ
-listed numbers list = bytesOverwritten (take (wholeNumbers list) numbers) list
+abbrev pub listWith : (numbers list : List ℕ) → List ℕ
+listWith numbers list = bytesOverwritten (take (wholeNumbers list) numbers) list
 
 -- `read_text`: the answer, and the text's numbers in the list, also if it has a stray byte (rules 16.1 to 16.3).
 pub record ReadTextPromise (text list : List ℕ) (r : Typed) (list' : List ℕ) : Type 0 where
   pub answer : r ≡ answerTo text
-  pub written : list' ≡ listed (numbersIn text) list
+  pub written : list' ≡ listWith (numbersIn text) list
 
 -- `number_start`: the offset of the first digit of a number, and the text's length if there is no such number (rule 16.4).
 abbrev pub NumberStartPromise : (text : List ℕ) (place r : ℕ) → Type 0

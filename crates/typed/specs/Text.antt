@@ -8,15 +8,15 @@ use Rattle.number.specs.Groups.{largest}
 
 -- ---- bytes
 -- The byte of the digit 0; those of the other digits follow it, up to that of 9 (rule 16.1).
-abbrev pub digitZero : ℕ
-digitZero = code "0"
+abbrev pub firstDigit : ℕ
+firstDigit = code "0"
 
-abbrev pub digitNine : ℕ
-digitNine = code "9"
+abbrev pub lastDigit : ℕ
+lastDigit = code "9"
 
 -- Whether a byte is a digit (rule 16.1).
 abbrev pub isDigit : ℕ → Bool
-isDigit byte = leb digitZero byte && leb byte digitNine
+isDigit byte = leb firstDigit byte && leb byte lastDigit
 
 -- Whether a byte ends a line: a carriage return or a line feed (rule 16.1).
 abbrev pub endsLine : ℕ → Bool
@@ -38,12 +38,12 @@ pub data State : Type 0 where
   remark : State
 
 -- The base of decimal numbers.
-abbrev pub ten : ℕ
-ten = 10
+abbrev pub decimalBase : ℕ
+decimalBase = 10
 
 -- A value with one digit more. A value that has passed the limit is not counted on, so it stays over the limit (rule 16.2).
 abbrev pub grown : (value byte : ℕ) → ℕ
-grown value byte = cond (ltb largest value) value (ten * value + (byte - digitZero))
+grown value byte = cond (ltb largest value) value (decimalBase * value + (byte - firstDigit))
 
 -- Behind a byte outside a remark: a digit goes on with the value; any other byte ends the number, and may start a remark (rule 16.2).
 abbrev pub opened : (value byte : ℕ) → State

@@ -9,7 +9,7 @@ use lib.ListN.{length, getD, take, length-replicate}
 use borrow.Author.Tests.{ltb-false}
 use Rattle.plain.specs.Bytes.{numberBytes, tableNumbers}
 use Rattle.typed.specs.Text.{numbersIn, firstStray}
-use Rattle.typed.specs.Promises.{listed}
+use Rattle.typed.specs.Promises.{listWith}
 use Rattle.typed.proofs.FewNumbers.{few-numbers}
 use Rattle.typed.proofs.Listing.{listed-length}
 use Rattle.typed.proofs.ReadBack.{all-read-back}
@@ -17,7 +17,7 @@ use Rattle.typing.specs.declared.listing.Fault.the-variants.{Long, Stray
 use Rattle.typing.specs.declared.listing.Listed.{Listed}
 use Rattle.typing.specs.declared.listing.Listed.the-variants.{Numbers, Faulty}
 use Rattle.typing.specs.Printed.{mostText}
-use Rattle.typing.specs.Promises.{mostNumbers, listedOf, ListRoomPromise, ListTextPromise}
+use Rattle.typing.specs.Promises.{mostTyped, listedOf, ListRoomPromise, ListTextPromise}
 
 -- what is known of a text whose numbers are counted
 pub record Counted (text : List ℕ) (count : ℕ) : Type 0 where
@@ -38,24 +38,24 @@ counted text count e = by-tests (ltb mostText (length text)) (ltb (firstStray te
     by-tests false false is so same = record { are-all = cc; not-long = is; none-stray = so }
 
 -- these are no more than there is room for
-few-counted : (text : List ℕ) (count : ℕ) → Numbers count ≡ listedOf text → count ≤ mostNumbers
+few-counted : (text : List ℕ) (count : ℕ) → Numbers count ≡ listedOf text → count ≤ mostTyped
 few-counted text count e =
     let known = counted text count e in
     omega (arith, known .are-all, few-numbers text, ltb-false mostText (length text) (known .not-long))
 
 -- so the list has them all, from its start on
 module _
-    {text list list' : List ℕ} {r : Listed} (count : ℕ) (sized : length list ≡ numberBytes * mostNumbers)
+    {text list list' : List ℕ} {r : Listed} (count : ℕ) (sized : length list ≡ numberBytes * mostTyped)
     (listing : ListTextPromise text list r list') (is : r ≡ Numbers count)
   where
     answered : Numbers count ≡ listedOf text
     answered = sym is ∙ listing .answer
 
-    filled : list' ≡ listed (numbersIn text) list
-    filled = listing .written ∙ ap (λ (t : Bool). cond t list (listed (numbersIn text) list)) (counted text count answered .not-long)
+    filled : list' ≡ listWith (numbersIn text) list
+    filled = listing .written ∙ ap (λ (t : Bool). cond t list (listWith (numbersIn text) list)) (counted text count answered .not-long)
 
     -- there are no more than there is room for
-    pub counted-few : count ≤ mostNumbers
+    pub counted-few : count ≤ mostTyped
     counted-few = few-counted text count answered
 
     -- their bytes are within it
@@ -69,5 +69,5 @@ module _
         rw (filled, all) (all-read-back text list (omega (arith, sized, all, counted-few)))
 
 -- the list that the programs make is as long as that
-pub list-room-long : {r : List ℕ} → ListRoomPromise r → length r ≡ numberBytes * mostNumbers
-list-room-long is = ap length is ∙ length-replicate {A = ℕ} (numberBytes * mostNumbers) 0
+pub list-room-long : {r : List ℕ} → ListRoomPromise r → length r ≡ numberBytes * mostTyped
+list-room-long is = ap length is ∙ length-replicate {A = ℕ} (numberBytes * mostTyped) 0

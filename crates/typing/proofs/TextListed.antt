@@ -8,7 +8,7 @@ use lib.ListN.{length, getD}
 use borrow.Author.Tests.{lt-ltb, le-ltb, ltb-true}
 use Rattle.typed.specs.declared.reading.Typed.the-variants as Typed
 use Rattle.typed.specs.Text.{numbersIn, firstStray}
-use Rattle.typed.specs.Promises.{answerTo, listed}
+use Rattle.typed.specs.Promises.{answerTo, listWith}
 use Rattle.typing.specs.declared.listing.Fault.the-variants.{Long, Stray}
 use Rattle.typing.specs.declared.listing.Listed.the-variants.{Numbers, Faulty}
 use Rattle.typing.specs.Printed.{mostText}
@@ -55,7 +55,7 @@ module _ (text list : List ℕ) where
       by-test false is same = record { are-all = cc; tested = is }
 
   -- it is not too long, and was read
-  module _ (short : length text ≤ mostText) (list' : List ℕ) (written : list' ≡ listed (numbersIn text) list) where
+  module _ (short : length text ≤ mostText) (list' : List ℕ) (written : list' ≡ listWith (numbersIn text) list) where
     -- it has a stray byte
     pub stray-listed : (offset : ℕ) → Typed.Stray offset ≡ answerTo text → ListTextPromise text list (Faulty (Stray offset (getD text offset 0))) list'
     stray-listed offset e =

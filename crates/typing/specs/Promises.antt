@@ -11,7 +11,7 @@ use Rattle.fields.specs.Answers.{noticeOf}
 use Rattle.output.specs.Put.{Put}
 use Rattle.plain.specs.Bytes.{numberBytes}
 use Rattle.typed.specs.Text.{numbersIn, firstStray}
-use Rattle.typed.specs.Promises.{listed}
+use Rattle.typed.specs.Promises.{listWith}
 use Rattle.writing.specs.declared.bytes.Written.{Written}
 use Rattle.typing.specs.declared.listing.Fault.{Fault}
 use Rattle.typing.specs.declared.listing.Fault.the-variants.{Long, Stray}
@@ -21,8 +21,8 @@ use Rattle.typing.specs.Printed.{mostText, longLine, strayLine, refusedL
 
 -- ---- rooms
 -- No text that is not too long has more numbers (rule 16.5).
-abbrev pub mostNumbers : ℕ
-mostNumbers = suc mostText / 2
+abbrev pub mostTyped : ℕ
+mostTyped = suc mostText / 2
 
 -- `text_room`: zeros, one byte more than the longest text has (rule 16.5).
 abbrev pub TextRoomPromise : List ℕ → Type 0
@@ -30,7 +30,7 @@ TextRoomPromise r = r ≡ replicate (suc mostText) 0
 
 -- `list_room`: zeros, for as many numbers as such a text can have (rule 16.5).
 abbrev pub ListRoomPromise : List ℕ → Type 0
-ListRoomPromise r = r ≡ replicate (numberBytes * mostNumbers) 0
+ListRoomPromise r = r ≡ replicate (numberBytes * mostTyped) 0
 
 -- ---- from a text to its numbers
 -- What comes of a text: it is too long, it has a stray byte, or it has so many numbers (rule 16.5).
@@ -42,7 +42,7 @@ listedOf text =
 -- `list_text`: that, and the numbers in the list; of a text that is too long none is listed (rule 16.5).
 pub record ListTextPromise (text list : List ℕ) (r : Listed) (list' : List ℕ) : Type 0 where
   pub answer : r ≡ listedOf text
-  pub written : list' ≡ cond (ltb mostText (length text)) list (listed (numbersIn text) list)
+  pub written : list' ≡ cond (ltb mostText (length text)) list (listWith (numbersIn text) list)
 
 -- ---- what is printed
 -- The line of a fault (rule 16.5).

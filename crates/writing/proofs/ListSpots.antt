@@ -13,7 +13,8 @@ use Rattle.number.specs.Reading.{readAt, offsetAt, ends, tooLarge}
 use Rattle.number.specs.Reading.Found.{number, fault}
 use Rattle.number.specs.Writing.{written}
 use Rattle.number.proofs.Laws.{past-end}
-use Rattle.number.proofs.Writing.{reads-back-at, over-the-limit-at, some-byte, five-bytes}
+use Rattle.number.proofs.Writing.{reads-back-at, over-the-limit-at}
+use Rattle.number.proofs.WrittenSizes.{some-byte}
 use Rattle.fields.specs.declared.reason.Reason.the-variants.{BytesAfter}
 use Rattle.fields.specs.declared.spot.Spot.{Spot}
 use Rattle.fields.specs.Reasons.{numberOf}

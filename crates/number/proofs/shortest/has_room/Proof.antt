@@ -6,7 +6,7 @@ use lib.Dec.{leb}
 use lib.ListN.{length}
 use borrow.Author.Tests.{le-leb, lt-leb}
 use Rattle.number.specs.Writing.{written}
-use Rattle.number.proofs.Writing.{five-bytes}
+use Rattle.number.proofs.WrittenSizes.{five-bytes}
 use Rattle.number.proofs.WrittenOut.{fits-behind}
 use borrow.Author.Needs.{needs}
 use Rattle.number.proofs.shortest.has_room.Statement.{statement}

@@ -33,10 +33,10 @@ same-length-2 c = search needs
 returns-2 : tie.Need-returns-2
 returns-2 c =
     let text = now (c .before .before .before .before .before .before .before .before .args .text) in
-    let listed = c .before .before .before .before .list-numbers .ensures in
+    let listWith = c .before .before .before .before .list-numbers .ensures in
     record {
-      answer = rw (listed .counted, le-ltb (firstStray text) (length text) (omega (arith, c .before .first-stray .ensures, c .if1 .left))) refl;
-      written = listed .written;
+      answer = rw (listWith .counted, le-ltb (firstStray text) (length text) (omega (arith, c .before .first-stray .ensures, c .if1 .left))) refl;
+      written = listWith .written;
     }
 
 pub read-text-spec : {M : Type 1} → statement M

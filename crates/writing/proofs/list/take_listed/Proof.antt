@@ -6,7 +6,7 @@ use denote.Ref.{now}
 use lib.ListN.{length, getD}
 use Rattle.number.specs.Groups.{mostGroups, largest}
 use Rattle.number.specs.Writing.{written}
-use Rattle.number.proofs.Writing.{five-bytes}
+use Rattle.number.proofs.WrittenSizes.{five-bytes}
 use Rattle.plain.specs.Bytes.{tableNumbers}
 use Rattle.fields.specs.declared.answer.Refusal.{Refusal}
 use Rattle.fields.specs.Answers.{noticeOf}
