@@ -29,7 +29,8 @@ pub enum Reason {
     OutflowOverInflow,
     // A segment has an emission, and no inflow to charge it to.
     EmissionWithoutInflow,
-    // The table for the plants' rows, or a writer's buffer, is too short. The place is how many numbers, or bytes, it needs; here and in the next.
+    // The table for the plants' rows is too short, or a writer's buffer. The place is how many numbers it needs, here and in the next; of the
+    // buffer, how many bytes.
     PlantTableShort,
     // The table for the segments' rows is too short.
     SegmentTableShort,

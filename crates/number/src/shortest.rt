@@ -8,7 +8,7 @@ ghost use Rattle.number.specs.Writing.{written, SizeOfPromise, WriteAtPr
 use crate::Number;
 use crate::groups::RADIX;
 
-// How many bytes the shortest form of a value has; over 64-bit values that five groups do not hold it is cut after five (rules 1.3 and 1.4).
+// How many bytes the shortest form of a value has. One that five groups do not hold is cut after the fifth (rules 1.3 and 1.4).
 pub fn size_of(value: u64) -> usize
     ensures { λ r. ⌜ SizeOfPromise value r ⌝ }
 {
