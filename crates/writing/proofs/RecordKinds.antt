@@ -1,12 +1,15 @@
 -- The kinds of records, by the laws of each: how its numbers are needed, and what its fields allow.
-use Prim.Native.Nat.{ℕ, _≤_, _<_}
+use Prim.Native.Nat.{ℕ, suc, _+_, _≤_, _<_}
 use mathlib.Core.Path.{_≡_, refl, sym, ap, _∙_}
 use mathlib.Core.Bool.{Bool}
 use mathlib.Core.List.{List, [], _∷_}
+use native.Mathlib.Numerals.{add-one}
 use native.Mathlib.Omega.{arith}
 use lib.ListN.{length, getD, take, replicate}
 use lib.Seq.{length-take-le, take-all}
+use Rattle.fields.specs.declared.spot.Spot.{Spot}
 use Rattle.fields.specs.Readers.{Reader, return, onward, allowsNext}
+use Rattle.fields.specs.Reaching.{readsFrom}
 use Rattle.fields.proofs.OneRecord.{Wants}
 use Rattle.fields.proofs.ByIndex.{number, spelt, spelt-out}
 use Rattle.records.specs.declared.counts.Counts.{Counts}
@@ -59,3 +62,7 @@ module _ (counts : Counts) (own field value : ℕ) (earlier : List ℕ) (sized :
 
   pub line-allowed : LineAllows counts earlier field value answer → AllowedBy Kind.Line
   line-allowed allows = rw (take-all lineFields earlier (omega (arith, sized))) allows
+
+-- ---- a record's own number is one more than how many came before it
+pub by-own : {A : Type 0} (one : ℕ → Reader A) (file : List ℕ) (at : Spot) (n : ℕ) → readsFrom (one (suc n)) file at ≡ readsFrom (one (n + 1)) file at
+by-own one file at n = ap (λ (own : ℕ). readsFrom (one own) file at) (sym (add-one n))

@@ -2,27 +2,14 @@
 
 use crate::file_bytes::all_bytes;
 
-/// Bytes that tell most, where not all are tried: both sides of digits, of spaces and of the sign of
-/// a remark, and what other programs write in texts.
-const TELLING: [u8; 32] = [
-    0x00, 0x01, 0x08, 0x09, 0x0A, 0x0B, 0x0C, 0x0D, 0x0E, 0x1A, 0x1F, 0x20, 0x21, 0x22, 0x23, 0x24,
-    0x2B, 0x2C, 0x2D, 0x2E, 0x2F, 0x30, 0x39, 0x3A, 0x65, 0x78, 0x7F, 0x80, 0x85, 0xA0, 0xB2, 0xFF,
-];
 /// The byte order mark that some programs put before a text, and that of two bytes a letter.
 const BYTE_ORDER_MARK: &[u8] = &[0xEF, 0xBB, 0xBF];
 const WIDE_BYTE_ORDER_MARK: &[u8] = &[0xFF, 0xFE];
 
-/// The text with every byte there is put in before this offset, one at a time.
-pub fn every_byte_at(text: &[u8], offset: usize) -> Vec<Vec<u8>> {
-    all_bytes().map(|byte| with(text, offset, byte)).collect()
-}
-
-/// The text with each telling byte put in before this offset, one at a time.
-pub fn telling_bytes_at(text: &[u8], offset: usize) -> Vec<Vec<u8>> {
-    TELLING
-        .iter()
-        .map(|&byte| with(text, offset, byte))
-        .collect()
+/// The text with every byte there is put in before each of these offsets, one at a time.
+pub fn every_byte_at(text: &[u8], offsets: &[usize]) -> Vec<Vec<u8>> {
+    let at = |&offset: &usize| all_bytes().map(move |byte| with(text, offset, byte));
+    offsets.iter().flat_map(at).collect()
 }
 
 /// The text with a byte put in before this offset.
@@ -73,11 +60,10 @@ mod tests {
 
     #[test]
     fn bytes_between_digits_are_mostly_refused() {
-        let labels = labels(&every_byte_at(b"1 23", 3));
+        let labels = labels(&every_byte_at(b"1 23", &[3]));
         assert_eq!(labels["T"], 256 - 10 - 4 - 1);
         assert_eq!(labels["A"], 10 + 1, "a digit, and the sign of a remark");
         assert_eq!(labels["R9"], 4, "a space");
-        assert_eq!(telling_bytes_at(b"1 23", 3).len(), 32);
     }
 
     #[test]

@@ -57,11 +57,11 @@ pub fn period_texts() -> Vec<Suite<PeriodText>> {
         suite("writes, hardly any text", hardly_any_text()),
         suite(
             "writes, every byte between digits",
-            bytes::every_byte_at(text, BETWEEN_ITS_DIGITS),
+            bytes::every_byte_at(text, &[BETWEEN_ITS_DIGITS]),
         ),
         suite(
-            "writes, bytes before a number, in a remark, at both ends",
-            telling_bytes(text, &[0, BEFORE_EXPORT, IN_ITS_REMARK, text.len()]),
+            "writes, every byte before a number, in a remark, at both ends",
+            bytes::every_byte_at(text, &[0, BEFORE_EXPORT, IN_ITS_REMARK, text.len()]),
         ),
         suite("writes, remarks and byte order marks", marks(text)),
         suite("writes, one list spelt in many ways", spelt(&SHORT_PERIOD)),
@@ -96,11 +96,11 @@ pub fn sheet_texts() -> Vec<Suite<SheetText>> {
         suite("writes days, hardly any text", hardly_any_text()),
         suite(
             "writes days, every byte at the end",
-            bytes::every_byte_at(text, text.len()),
+            bytes::every_byte_at(text, &[text.len()]),
         ),
         suite(
-            "writes days, bytes before a number, between digits, in a remark",
-            telling_bytes(text, &[0, BEFORE_NUMBER, BETWEEN_DIGITS, IN_REMARK]),
+            "writes days, every byte before a number, between digits, in a remark",
+            bytes::every_byte_at(text, &[0, BEFORE_NUMBER, BETWEEN_DIGITS, IN_REMARK]),
         ),
         suite("writes days, remarks and byte order marks", marks(text)),
         suite(
@@ -149,12 +149,6 @@ fn hardly_any_text() -> Vec<Vec<u8>> {
         b"\0",
     ];
     texts.map(<[u8]>::to_vec).to_vec()
-}
-
-/// The text with telling bytes at each of these offsets.
-fn telling_bytes(text: &[u8], offsets: &[usize]) -> Vec<Vec<u8>> {
-    let at = |&offset: &usize| bytes::telling_bytes_at(text, offset);
-    offsets.iter().flat_map(at).collect()
 }
 
 /// The text behind remarks of every byte, and with byte order marks.
@@ -264,9 +258,9 @@ mod tests {
     #[test]
     fn texts_are_few_enough_to_start_a_slow_program_for_each() {
         let periods: usize = period_texts().iter().map(|suite| suite.cases.len()).sum();
-        assert!((600..=750).contains(&periods), "{periods}");
+        assert!((1_500..=1_650).contains(&periods), "{periods}");
         let sheets: usize = sheet_texts().iter().map(|suite| suite.cases.len()).sum();
-        assert!((600..=750).contains(&sheets), "{sheets}");
+        assert!((1_500..=1_650).contains(&sheets), "{sheets}");
     }
 
     #[test]

@@ -1,14 +1,16 @@
 -- `writing::period::test_records` meets its contract: its loop passes one record after another and keeps none. Assumes nothing.
-use Prim.Native.Nat.{ℕ, _-_}
+use Prim.Native.Nat.{_+_, _-_}
+use mathlib.Core.Path.{_≡_, _∙_}
 use mathlib.Core.List.{List, [], _∷_, _++_}
-use native.Mathlib.Numerals.{add-one}
 use native.Mathlib.Omega.{arith}
 use denote.Ref.{now}
 use borrow.Author.Needs.{needs}
+use Rattle.fields.specs.Reaching.{readsFrom, stoppedBy}
 use Rattle.fields.specs.Written.{fileOf}
 use Rattle.fields.proofs.Stages.{Passed, none-passed, one-passed, one-refused, none-left}
 use Rattle.plain.specs.Bytes.{tableNumbers}
 use Rattle.writing.specs.Inside.{At, Of, recordOf}
+use Rattle.writing.proofs.RecordKinds.{by-own}
 use Rattle.writing.proofs.period.test_records.Statement.{statement}
 use Rattle.writing.proofs.period.test_records.Tie as tie
 
@@ -36,10 +38,13 @@ enum-known-refusal c = search needs
 
 returns : tie.Need-returns Inv-loop μ-loop
 returns c =
-    let so-far = c .before .before .before .before .before .loop .inv in
+    let a = c .before .before .before .before .before .before .before .args in
+    let l = c .before .before .before .before .before .loop in
     let r = c .before .refusal .given in
-    let came = rw (r .1, add-one) at (c .before .before .before .test-record .ensures) in
-    one-refused (so-far .1 .1) (omega arith) (r .0 .0) came
+    let file = fileOf (tableNumbers (now (a .numbers))) in
+    let came : readsFrom (recordOf (a .kind) (a .counts) (l .n + 1)) file (l .at) ≡ stoppedBy (r .0 .0) =
+    rw (r .1) at (c .before .before .before .test-record .ensures) in
+    one-refused (l .inv .1 .1) (omega arith) (r .0 .0) (by-own (recordOf (a .kind) (a .counts)) file (l .at) (l .n) ∙ came)
 
 enum-known-next : tie.Need-enum-known-next Inv-loop μ-loop
 enum-known-next c = search needs
@@ -52,10 +57,12 @@ loop-less c = omega arith
 
 loop-again : tie.Need-loop-again Inv-loop μ-loop
 loop-again c =
-    let so-far = c .before .before .before .before .before .loop .inv in
+    let a = c .before .before .before .before .before .before .before .args in
+    let l = c .before .before .before .before .before .loop in
     let r = c .before .next .given in
-    let came = rw (r .1, add-one) at (c .before .before .before .test-record .ensures) in
-    (came .0, (so-far .1 .0 ++ (came .1 .0 ∷ []), one-passed (so-far .1 .1) (omega arith) (came .1 .0) (r .0 .0) (came .1 .1)))
+    let came = rw (r .1) at (c .before .before .before .test-record .ensures) in
+    let own = by-own (recordOf (a .kind) (a .counts)) (fileOf (tableNumbers (now (a .numbers)))) (l .at) (l .n) in
+    (came .0, (l .inv .1 .0 ++ (came .1 .0 ∷ []), one-passed (l .inv .1 .1) (omega arith) (came .1 .0) (r .0 .0) (own ∙ came .1 .1)))
 
 returns-2 : tie.Need-returns-2 Inv-loop μ-loop
 returns-2 c =
