@@ -3,6 +3,8 @@
 // Kind N asks what number reading reports at that byte: "N value offset next", or for a fault "R refusal byte offset". Kind P asks how the
 // file is read, whatever that byte: "A" and its numbers in file order, as the records hold them, or for a refused file "R refusal place offset".
 // Input that is no whole case is said on standard error, and ends the run.
+#![tactic(auto)]
+
 mod case;
 mod numbers;
 mod readings;

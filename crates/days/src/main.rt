@@ -1,4 +1,6 @@
 // The program for a meter's sheet on standard input: it prints its five figures, or the line of a refused sheet (rule 12.10).
+#![tactic(auto)]
+
 mod answer;
 mod room;
 

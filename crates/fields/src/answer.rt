@@ -4,14 +4,14 @@ ghost use Rattle.fields.specs.Answers.{AnswerOffsetPromise, AnswerPlacePromise, 
 use crate::reason::Reason;
 
 // Why and where: each reason says what its place is, mostly that of the number at fault, counted from 0 (rule 8.2); and at which byte (rule 8.9).
-#[derive(Drop)]
+#[derive(Clone, Copy)]
 pub struct Refusal {
     pub reason: Reason,
     pub place: u64,
     pub offset: u64,
 }
 
-#[derive(Drop)]
+#[derive(Clone, Copy)]
 pub enum Answer {
     Accepted,
     Refused(Refusal),

@@ -2,6 +2,8 @@
 //
 // Everything that reads a file of numbers is built on this: a spot in the file, the number that is taken there, the reasons to
 // refuse, the end. The layer above says what the fields of a file are and which values they allow.
+#![tactic(auto)]
+
 pub mod answer;
 pub mod reason;
 pub mod spot;

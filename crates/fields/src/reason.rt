@@ -2,7 +2,7 @@
 ghost use Rattle.fields.specs.Reasons.{ReasonNumberPromise};
 
 // In the order of their numbers. Files of every kind can have 1, 2, 3, 5 and 9.
-#[derive(Drop)]
+#[derive(Clone, Copy)]
 pub enum Reason {
     // The bytes end within a number, or before one that is still due.
     Ends,

@@ -5,7 +5,7 @@ use crate::answer::Refusal;
 use crate::reason::Reason;
 
 // The byte where it starts, and its place: how many numbers come before it.
-#[derive(Drop)]
+#[derive(Clone, Copy)]
 pub struct Spot {
     pub byte: usize,
     pub place: u64,

@@ -7,7 +7,7 @@ use crate::spot::Spot;
 use number::{Number, read_at};
 
 // What is taken at a spot: a value, with the spot of the next number; or the number's fault.
-#[derive(Drop)]
+#[derive(Clone, Copy)]
 pub enum Taken {
     Value(u64, Spot),
     Refused(Refusal),

@@ -15,7 +15,7 @@ use reading::{ReadLine, read_line};
 use records::{Counts, Line, Plant, Segment};
 
 // What the owners emit, all zeros in a file that is refused (rules 4.3 and 4.4).
-#[derive(Drop)]
+#[derive(Clone, Copy)]
 pub struct Emissions {
     // How many bytes were read up to the end of the file: the offset of what the accounts refuse (rule 8.9).
     pub bytes: u64,
@@ -41,7 +41,7 @@ impl Emissions {
 }
 
 // The lines added up: what is said of them, and what the owners emit.
-#[derive(Drop)]
+#[derive(Clone, Copy)]
 pub(crate) struct Added {
     pub(crate) answer: Answer,
     pub(crate) emissions: Emissions,

@@ -10,7 +10,7 @@ use reading::{ReadPlant, ReadRecords, ReadSegment, read_plant, read_segment};
 use records::{Counts, Plant, Segment};
 
 // The fields of the plants, by their index, and zeros behind them.
-#[derive(Drop)]
+#[derive(Clone, Copy)]
 pub struct Plants {
     pub exported: [u32; Plant::MOST],
     pub first: [u32; Plant::MOST],
@@ -18,7 +18,7 @@ pub struct Plants {
 }
 
 // The fields of the segments, by their index, and zeros behind them.
-#[derive(Drop)]
+#[derive(Clone, Copy)]
 pub struct Segments {
     pub kind: [u8; Segment::MOST],
     pub outflow: [u32; Segment::MOST],

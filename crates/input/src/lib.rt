@@ -1,4 +1,6 @@
 // Reads standard input into lent room, for all programs.
+#![tactic(auto)]
+
 ghost use Rattle.input.specs.Received.{Received};
 
 use libc::STDIN_FILENO;

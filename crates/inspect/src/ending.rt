@@ -16,7 +16,7 @@ use output::{print, put_bytes, put_line, put_number, put_refusal, put_spaced, pu
 use reading::verdict;
 
 // Where a walk stops.
-#[derive(Drop)]
+#[derive(Clone, Copy)]
 enum Stop {
     // At a number that has a fault.
     Fault,

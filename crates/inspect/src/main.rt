@@ -1,4 +1,6 @@
 // The inspector's program for a period file on standard input: it prints the inspector's page (rules 11.6 and 11.7).
+#![tactic(auto)]
+
 mod ending;
 mod mark;
 mod page;

@@ -2,6 +2,8 @@
 //
 // The functions over the reader are proved by hand, since the kit by itself proves none over a struct that holds a reference.
 // So they are thin, and leave the work to `number`.
+#![tactic(auto)]
+
 mod after;
 pub mod field;
 pub mod step;

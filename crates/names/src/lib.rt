@@ -1,4 +1,6 @@
 // Puts the words for a field into a lent buffer (rule 11.5).
+#![tactic(auto)]
+
 ghost use Rattle.std.specs.Prelude.{◌++◌};
 ghost use Rattle.output.specs.Lines.{spaced};
 ghost use Rattle.output.specs.Put.{Put};

@@ -11,7 +11,7 @@ use crate::Number;
 pub(crate) const RADIX: u64 = 128;
 
 // How the groups of a number ended.
-#[derive(Drop)]
+#[derive(Clone, Copy)]
 pub(crate) enum Ending {
     // The last group came: how many groups there are, and that last one.
     Last { count: usize, group: u64 },

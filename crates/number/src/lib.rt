@@ -2,6 +2,8 @@
 //
 // Every layer above reads its numbers through read_at, and uses only its promise and the laws of proofs/.
 // No law above opens the definitions; worked examples do, to compute.
+#![tactic(auto)]
+
 pub mod bytes;
 mod groups;
 pub mod shortest;
@@ -15,7 +17,7 @@ use crate::groups::{Ending, form, gather};
 pub use crate::shortest::{size_of, write_at};
 
 // What is at a byte: a number, or one of three faults (rule 1.5).
-#[derive(Drop)]
+#[derive(Clone, Copy)]
 pub enum Number {
     // The value, and the first byte behind the number.
     Value { value: u64, next: usize },
@@ -47,7 +49,7 @@ impl Number {
 }
 
 // What number reading reports: the number or its fault, and the offset of its first byte (rules 1.6 and 1.7).
-#[derive(Drop)]
+#[derive(Clone, Copy)]
 pub struct Report {
     pub number: Number,
     pub offset: usize,

@@ -2,6 +2,8 @@
 //
 // Text is put at a byte of the buffer, as far as there is room, and the byte behind the text is answered.
 // An answer past the buffer's end says that text is missing, of this piece or of one before it.
+#![tactic(auto)]
+
 mod bytes;
 mod lines;
 mod printing;

@@ -1,6 +1,8 @@
 // Plain numbers of 64 bits in a caller's bytes: eight bytes to a number, the lowest in front; spare bytes do not count (rule 10.5).
 //
 // A C caller lends its tables and its lists so. A list has as many numbers as are whole.
+#![tactic(auto)]
+
 ghost use Rattle.std.specs.Prelude.{◌+◌, ◌*◌, ◌≤◌, ◌≡◌, length, take, drop};
 ghost use Rattle.std.proofs.lemmas.List.Edits.{sets};
 ghost use Rattle.plain.specs.Bytes.{eight_bytes, number_bytes, value_of, row_between, PlainAtPromise, RoomPromise, WritePlainPromise, WriteRowPromise};

@@ -2,6 +2,8 @@
 //
 // The numbers are taken in their order: the header, the plants, the segments, the lines, and then the end of the file.
 // Each number is tested before the next one is taken. A caller reads one record after another and keeps what it needs of each.
+#![tactic(auto)]
+
 pub mod header;
 pub mod lines;
 pub mod plants;

@@ -6,7 +6,7 @@ use crate::plant::Plant;
 use crate::segment::Segment;
 
 // A row of the table: a class, its equations in the annex, who may have it, and how its grams count (rules 3.1 and 3.4).
-#[derive(Drop)]
+#[derive(Clone, Copy)]
 pub struct Class {
     pub code: u8,
     // The first of its equations, and the last; most classes have one.

@@ -1,7 +1,7 @@
 // How many records of each kind a period has.
 
 // P, S and L, as the header says them (rule 2.3).
-#[derive(Drop)]
+#[derive(Clone, Copy)]
 pub struct Counts {
     pub plants: u64,
     pub segments: u64,

@@ -8,7 +8,7 @@ use crate::segment::Segment;
 use fields::Reason;
 
 // What the header of a file tells of the records behind it.
-#[derive(Drop)]
+#[derive(Clone, Copy)]
 pub enum Header {
     // How many there are of each kind.
     Tells(Counts),

@@ -2,6 +2,8 @@
 //
 // A field is tested by its index in the record and by numbers, not bytes. The definitions in specs/ say what a file has to hold,
 // and in which order it is tested.
+#![tactic(auto)]
+
 pub mod class;
 pub mod counts;
 pub mod header;

@@ -8,7 +8,7 @@ use crate::counts::Counts;
 use crate::plant::Plant;
 use crate::segment::Segment;
 
-#[derive(Drop)]
+#[derive(Clone, Copy)]
 pub struct Line {
     // Whether a plant or a segment owns it, and which.
     pub owner_kind: u8,

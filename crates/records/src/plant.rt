@@ -5,7 +5,7 @@ ghost use Rattle.records.specs.FieldTests.{PlantAllows};
 
 use crate::counts::Counts;
 
-#[derive(Drop)]
+#[derive(Clone, Copy)]
 pub struct Plant {
     // What it exported, in kg.
     pub exported: u32,

@@ -5,7 +5,7 @@ ghost use Rattle.records.specs.FieldTests.{SegmentAllows};
 
 use crate::counts::Counts;
 
-#[derive(Drop)]
+#[derive(Clone, Copy)]
 pub struct Segment {
     // Its kind: a way of transport, a storage on the way, or a geological store.
     pub kind: u8,

@@ -1,4 +1,6 @@
 // The program for a period file on standard input: it prints its rows, or the line of a refused file (rules 11.1 and 11.2).
+#![tactic(auto)]
+
 mod answer;
 mod room;
 

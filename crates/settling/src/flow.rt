@@ -21,7 +21,7 @@ use number::Number;
 use records::{Plant, Segment};
 
 // The segment whose turn it is: its index, its record, what it emits in kg, and how many bytes were read.
-#[derive(Drop)]
+#[derive(Clone, Copy)]
 pub(crate) struct Due {
     pub(crate) index: usize,
     pub(crate) segment: Segment,

@@ -1,6 +1,8 @@
 // Text that people type, turned into a list of plain numbers (rules 16.1 to 16.4).
 //
 // A text is numbers in decimal with spaces between them, and remarks; any other byte is stray. Every text has an answer.
+#![tactic(auto)]
+
 mod kinds;
 pub mod reading;
 mod scan;

@@ -10,7 +10,7 @@ use number::Number;
 const TEN: u64 = 10;
 
 // Between numbers, within a number that has this value so far, or within a remark.
-#[derive(Drop)]
+#[derive(Clone, Copy)]
 pub(crate) enum Scan {
     Between,
     Within(u64),

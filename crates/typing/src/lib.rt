@@ -1,4 +1,6 @@
 // What the programs share that write a file from typed text: every step but the tests of the kind of file (rule 16.5).
+#![tactic(auto)]
+
 pub mod answer;
 pub mod listing;
 pub mod room;

@@ -1,4 +1,6 @@
 // The program that writes a period file: it reads typed text on standard input, and prints the file, or a line that says why not (rule 16.5).
+#![tactic(auto)]
+
 mod answer;
 mod room;
 

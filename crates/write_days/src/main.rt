@@ -1,4 +1,6 @@
 // The program that writes a meter's sheet: it reads typed text on standard input, and prints the sheet, or a line that says why not (rule 16.5).
+#![tactic(auto)]
+
 mod answer;
 mod room;
 

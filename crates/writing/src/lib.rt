@@ -2,6 +2,8 @@
 //
 // A list is tested as its file would be when it is read, number by number, and the room in the buffer last. Only then is anything written, so
 // a refusal leaves the buffer as it was. The tests of fields are those of the reader.
+#![tactic(auto)]
+
 pub mod bytes;
 mod list;
 pub mod period;

@@ -11,7 +11,7 @@ use fields::{Reason, Spot, Taken};
 use records::{Counts, Line, Plant, Segment};
 
 // The kinds of records behind the header.
-#[derive(Drop)]
+#[derive(Clone, Copy)]
 pub(crate) enum Kind {
     Plant,
     Segment,
