@@ -64,6 +64,7 @@ module _ {A : Type 0} where
   allowed_one (return what) (first ∷ taken) value need before small passed = absurd before
   allowed_one (needs reason allowed then) (first ∷ taken) value need before small passed =
       (before.0, before.1, allowed_one (then first) taken value need before.2 small passed)
+  allowed_one {reason = reason} (return what) [] value need before small passed = elim need [ ]
 
   -- ---- the loop: so far f of the numbers are taken, and the next one is at a spot
   module _ (reader : Reader A) (file : List ℕ) (start : Spot) (wanted : ℕ) where
@@ -109,6 +110,7 @@ module _ {A : Type 0} where
         where
           by_need : {reason : Reason} (rest : Reader A) → Needing rest reason → reads_from rest file at ≡ stopped_by refusal
           by_need (needs reason allowed then) needing = spot_faulty file reason allowed then at refusal there
+          by_need {reason = reason} (return _) need = elim need [ ]
 
       module _ (v : ℕ) (next : Spot) (there : ValueThere file at v next) where
         -- its field does not allow it
@@ -120,6 +122,7 @@ module _ {A : Type 0} where
                 {reason : Reason} (rest : Reader A) → Needing rest reason → allows_next rest v ≡ false →
                 reads_from rest file at ≡ stopped (notice (number_of reason) at.place at.byte)
             by_need (needs reason allowed then) needing is = spot_wrong file reason allowed then at v next there is
+            by_need {reason = reason} (return _) need is = elim need [ ]
 
         -- it is allowed: one number more is taken
         pub next_taken :
@@ -145,6 +148,7 @@ module _ {A : Type 0} where
                 {reason : Reason} (rest : Reader A) → Needing rest reason → allows_next rest v ≡ true →
                 reads_from rest file at ≡ reads_from (one_onward rest v) file next
             by_need (needs reason allowed then) needing is = spot_passed file reason allowed then at v next there is
+            by_need {reason = reason} (return _) need is = elim need [ ]
 
     -- of a record whose fields all have one reason, a number that its field does not allow is refused for that
     pub one_wrong :
