@@ -12,7 +12,7 @@
  *   the version . the row of a plant . the row of a segment . limits . counts . answers . offsets . quantify . days .
  *   write . an example
  *
- * Link with the archive target/staticlib/libhistorian.a, for x86-64, which `rt staticlib historian` proves and builds. Of
+ * Link with the archive target/staticlib/libhistorian.a, for x86-64, which `tools/archive` proves and builds. Of
  * the C library it needs memcpy and memset. examples/historian.c is a whole program; examples/README.md shows how to
  * build it by hand, with make, with CMake and with pkg-config.
  */

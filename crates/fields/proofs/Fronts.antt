@@ -5,7 +5,7 @@ use Rattle.number.specs.Groups.{most_groups}
 use Rattle.number.specs.Reading.{read_at, offset_at}
 use Rattle.number.proofs.Laws.{only_five_bytes}
 use Rattle.fields.specs.declared.reason.Reason.{Reason}
-use Rattle.fields.specs.Answers.{Notice, notice}
+use Rattle.fields.specs.Answers.{Notice}
 use Rattle.fields.specs.Readers.{Reader, Read, read, refused, reads}
 use Rattle.fields.specs.Files.{ended, file_read}
 use Rattle.fields.proofs.FieldByField.{Comes, done as all_read, goes, fails, stops, comes, goes_over}

@@ -7,7 +7,6 @@ use Rattle.fields.specs.declared.reason.Reason.{Reason}
 use Rattle.fields.specs.declared.reason.Reason.TheVariants.{Ends, NotShortest, TooLarge, WrongEdition, WrongCount, WrongPlant, WrongSegment, WrongLine, BytesAfter, TooManyGrams, InflowTooLarge, OutflowOverInflow, EmissionWithoutInflow, PlantTableShort, SegmentTableShort, CapturedOverFuel}
 use Rattle.fields.specs.declared.spot.Spot.{Spot}
 use Rattle.fields.specs.declared.taking.Taken.{Taken}
-use Rattle.fields.specs.declared.taking.Taken.TheVariants as Taken
 use Rattle.fields.specs.Reasons.{number_of, ReasonNumberPromise}
 use Rattle.fields.specs.Answers.{Notice, notice_of, said, RefusedPromise, AnswerRefusalPromise, AnswerPlacePromise, AnswerOffsetPromise}
 use Rattle.fields.specs.Spots.{took, SpotFirstPromise, SpotRefusalPromise, TakePromise, NothingAfterPromise}

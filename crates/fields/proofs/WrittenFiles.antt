@@ -4,14 +4,13 @@ use Rattle.std.proofs.Common.{◌≡◌, ℕ, suc, ◌+◌, ◌*◌, ◌<◌, �
 use native.Mathlib.Decide.{dec_le}
 use borrow.Author.Tests.{lt-leb}
 use Rattle.number.specs.Groups.{most_groups, largest}
-use Rattle.number.specs.Reading.{Found, read_at, offset_at, ends, too_large}
-use Rattle.number.specs.Reading.Found.{number as a_number_found, fault as one_fault}
+use Rattle.number.specs.Reading.{read_at, offset_at, ends, too_large}
+use Rattle.number.specs.Reading.Found.{number as a_number_found}
 use Rattle.number.specs.Writing.{written, AreBytes}
 use Rattle.number.proofs.Laws.{past_end, bounds}
 use Rattle.number.proofs.Writing.{reads_back_at, over_the_limit_at, one_form}
 use Rattle.number.proofs.WrittenSizes.{some_byte, five_bytes}
 use Rattle.fields.specs.declared.reason.Reason.{Reason}
-use Rattle.fields.specs.declared.reason.Reason.TheVariants.{BytesAfter}
 use Rattle.fields.specs.Reasons.{number_of}
 use Rattle.fields.specs.Answers.{notice}
 use Rattle.fields.specs.Readers.{Reader, return, needs, Read, read, refused, reads, consumes}

@@ -8,7 +8,6 @@ use Rattle.fields.specs.declared.reason.Reason.{Reason}
 use Rattle.fields.specs.declared.reason.Reason.TheVariants.{BytesAfter}
 use Rattle.fields.specs.declared.spot.Spot.{Spot}
 use Rattle.fields.specs.declared.taking.Taken.{Taken}
-use Rattle.fields.specs.declared.taking.Taken.TheVariants as Taken
 use Rattle.fields.specs.Reasons.{number_of}
 use Rattle.fields.specs.Answers.{Notice, notice, notice_of, Verdict, accepts, refuses, said}
 

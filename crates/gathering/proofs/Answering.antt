@@ -28,7 +28,6 @@ use Rattle.records.proofs.Parts.{header_stopped, plants_stopped, segments_stoppe
 use Rattle.records.proofs.Starts.{first_line_starts}
 use Rattle.records.proofs.RecordsWithin.{plants_within, segments_within, lines_within}
 use Rattle.reading.specs.declared.whole.ReadRecords.{ReadRecords}
-use Rattle.reading.specs.declared.whole.ReadRecords.TheVariants as ReadRecords
 use Rattle.accounts.specs.Order.{emission_tests}
 use Rattle.gathering.specs.declared.emissions.Added.{Added}
 use Rattle.gathering.specs.declared.gathering.Gathered.{Gathered}

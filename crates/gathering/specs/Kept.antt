@@ -9,7 +9,6 @@ use Rattle.records.specs.declared.segment.Segment.{Segment}
 use Rattle.records.specs.Headers.{header}
 use Rattle.records.specs.Periods.{plants_of, segments_of}
 use Rattle.reading.specs.declared.whole.ReadRecords.{ReadRecords}
-use Rattle.reading.specs.declared.whole.ReadRecords.TheVariants as ReadRecords
 use Rattle.gathering.specs.declared.network.Plants.{Plants}
 use Rattle.gathering.specs.declared.network.Segments.{Segments}
 use Rattle.gathering.specs.Gathered.{PlantRecords, SegmentRecords}

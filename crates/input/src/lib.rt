@@ -3,8 +3,8 @@
 
 ghost use Rattle.input.specs.Received.{Received};
 
-use libc::STDIN_FILENO;
 use output::complain;
+use std::io::Read;
 
 // What came of reading standard input.
 #[derive(Drop)]
@@ -16,18 +16,17 @@ pub enum Input {
 }
 
 // Reads standard input to its end, or until the room is full. A read that fails is said on standard error, and not tried again:
-// libc does not tell why it failed, and the programs handle no signals, so the system itself takes up a read that one interrupts.
-pub fn read_input(program: &[u8], room: &mut [u8]) -> Input
+// the programs handle no signals, so the system itself takes up a read that one interrupts.
+pub fn read_input(rt: &HostRuntime, program: &[u8], room: &mut [u8]) -> Input
     ensures { Received result room.new }
 {
+    let mut source = rt.stdin();
     let mut bytes = 0;
     while bytes < room.len() {
-        let got = libc::read(STDIN_FILENO, &mut room[bytes..]);
-        if got < 0 {
-            say_unread(program);
+        let Ok(more) = source.read(&mut room[bytes..]) else {
+            say_unread(rt, program);
             return Input::Fault;
-        }
-        let more = io::count(got, &room[bytes..]);
+        };
         if more == 0 {
             break;
         }
@@ -37,8 +36,9 @@ pub fn read_input(program: &[u8], room: &mut [u8]) -> Input
 }
 
 // Says on standard error that standard input cannot be read.
-fn say_unread(program: &[u8]) {
+fn say_unread(rt: &HostRuntime, program: &[u8]) {
     complain(
+        rt,
         program,
         b"cannot read standard input: see that it is a file that you may read, and run this again",
     );

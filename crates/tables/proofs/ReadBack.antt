@@ -1,14 +1,14 @@
 -- A table of bytes, read as numbers: what is written is read back, and numbers that are written over its bytes are written over its numbers.
-use Prim.Native.Nat.{ℕ, zero, suc, ◌+◌, ◌-◌, ◌*◌, ◌/◌, ◌^◌, ◌≤◌, ◌<◌}
-use mathlib.Core.Path.{◌≡◌, refl, ap, ◌∙◌}
+use Prim.Native.Nat.{ℕ, zero, suc, ◌+◌, ◌-◌, ◌*◌, ◌/◌, ◌≤◌}
+use mathlib.Core.Path.{◌≡◌, ap, ◌∙◌}
 use mathlib.Core.List.{List, [], ◌∷◌, ◌++◌, append_assoc, flat_map}
-use native.Mathlib.Nat.{pow-suc, div-lt_iff_lt-mul, div-mul-le_self, mod-add-div}
+use native.Mathlib.Nat.{div-mul-le_self}
 use native.Mathlib.Omega.{arith}
 use lib.ListN.{length, drop, length-append, length-drop}
 use lib.Seq.{take_at, drop_at, drop-drop}
-use Rattle.accounts.specs.RowsAndColumns.{entry_bits, Entries}
+use Rattle.accounts.specs.RowsAndColumns.{Entries}
 use Rattle.period.specs.Written.{overwritten}
-use Rattle.plain.specs.Bytes.{number_bytes, byte_values, whole_numbers, bytes_of, eight_bytes, value_of, first_numbers, table_numbers, bytes_overwritten}
+use Rattle.plain.specs.Bytes.{number_bytes, whole_numbers, eight_bytes, first_numbers, table_numbers, bytes_overwritten}
 use Rattle.plain.proofs.EightBytes.{length_bytes, value_of_eight}
 use Rattle.plain.proofs.NumbersInBytes.{length_all}
 
