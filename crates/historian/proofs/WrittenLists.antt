@@ -11,17 +11,17 @@ use lib.ListN.{length}
 use Rattle.fields.specs.declared.reason.Reason.TheVariants.{BytesAfter, PlantTableShort}
 use Rattle.fields.specs.Reasons.{number_of}
 use Rattle.fields.specs.Answers.{Notice, notice, Verdict, accepts, refuses}
-use Rattle.fields.specs.Readers.{Read, read, refused}
+use Rattle.fields.specs.Readers.{Read, refused}
 use Rattle.fields.specs.Files.{read_verdict}
 use Rattle.fields.specs.Tests.{Test, tested_by, FirstFails}
-use Rattle.fields.specs.Written.{file_of, list_read, fitting, write_verdict}
+use Rattle.fields.specs.Written.{file_of, fitting, write_verdict}
 use Rattle.fields.proofs.Testing.{first_answers}
 use Rattle.fields.proofs.Asking.{Tried, all_pass, one_fails, tried}
 use Rattle.records.specs.Periods.{Period, period, period_file}
 use Rattle.records.specs.Places.{number_count}
 use Rattle.writing.proofs.WrittenPeriods.{refused_as_file, reads_back}
 use Rattle.accounts.specs.Order.{Ruling, refusal, accepted, tested}
-use Rattle.accounts.specs.Quantified.{quantified, after_reading}
+use Rattle.accounts.specs.Quantified.{quantified}
 use Rattle.accounts.specs.AllTests.{counts_at, period_at, reading_tests}
 use Rattle.accounts.proofs.Testing.{first_fails}
 use Rattle.accounts.proofs.Places.{period_asks}

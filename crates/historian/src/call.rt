@@ -16,7 +16,7 @@ pub extern "C" fn steeplecuff_quantify(
     place: &mut u64,
     offset: &mut u64,
 ) -> u32
-    ensures* { λ r. ⌜ EntryPromise file.now plants.old segments.old (record { result = r; place = place.new; offset = offset.new; plants = plants.new; segments = segments.new }) ⌝ }
+    ensures { EntryPromise file.now plants.old segments.old (record { result = result; place = place.new; offset = offset.new; plants = plants.new; segments = segments.new }) }
 {
     let settled = settle(file);
     let answer = settled.answer;

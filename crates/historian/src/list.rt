@@ -12,7 +12,7 @@ pub extern "C" fn steeplecuff_write(
     written: &mut u64,
     place: &mut u64,
 ) -> u32
-    ensures* { λ r. ⌜ WriteEntryPromise numbers.now buffer.old (record { result = r; written = written.new; place = place.new; buffer = buffer.new }) ⌝ }
+    ensures { WriteEntryPromise numbers.now buffer.old (record { result = result; written = written.new; place = place.new; buffer = buffer.new }) }
 {
     let outcome = write_period(numbers, buffer);
     let answer = outcome.answer;

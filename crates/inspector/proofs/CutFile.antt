@@ -7,7 +7,6 @@ use lib.ListN.{take, drop, take-append-drop}
 use denote.Ref.{Bor}
 use Rattle.number.specs.Reading.{fault as one_fault, read_at, ends}
 use Rattle.number.proofs.Laws.{what_follows}
-use Rattle.accounts.specs.Order.{refusal}
 use Rattle.inspector.specs.declared.Inspector.{Inspector}
 use Rattle.inspector.specs.Reader.{step_at, stepped}
 use Rattle.inspector.specs.Walk.{Walks, there, step, Walked, Stops}

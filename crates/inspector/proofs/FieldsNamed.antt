@@ -25,7 +25,6 @@ use Rattle.records.specs.Within.{counts_of}
 use Rattle.records.specs.Numbers.{plant_numbers_of, segment_numbers_of, line_numbers_of, period_numbers}
 use Rattle.accounts.specs.Accepted.{Accepted, held}
 use Rattle.inspector.specs.declared.field.Field.{Field}
-use Rattle.inspector.specs.declared.field.Field.TheVariants as Field
 use Rattle.inspector.specs.FieldsAt.{field_at}
 use Rattle.inspector.specs.FieldsTold.{stands_in}
 use Rattle.inspector.proofs.AcceptedNumbers.{accepted_header}

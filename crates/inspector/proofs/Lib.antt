@@ -1,6 +1,4 @@
--- What the proofs over a reader share, and what a caller of a step uses.
-mod ByHand
-mod Lent
+-- What a caller of a step uses.
 pub mod Steps
 -- The numbers that reading takes: they are the period's, and a walk over the file gives them.
 pub mod AcceptedNumbers

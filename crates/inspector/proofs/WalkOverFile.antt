@@ -155,7 +155,8 @@ first_steps :
     (middle : Inspector) × Walks reader (take k values) middle
 first_steps {reader} zero few walks = (reader, there)
 first_steps (suc k) few there = absurd (omega (arith, few))
-first_steps (suc k) few (step is_number more) = let (middle, walks) = first_steps k (omega (arith, few)) more in (middle, step is_number walks)
+first_steps {reader = reader} (suc k) few (step is_number more) =
+    let (middle, walks) = first_steps {reader = stepped reader} k (omega (arith, few)) more in (middle, step is_number walks)
 
 module _ (file : Bor (List ℕ)) (plant_table segment_table : ℕ) (told : Notice) (is : quantified file.now plant_table segment_table ≡ refusal told) where
   -- a refusal up to 9 is how reading ended

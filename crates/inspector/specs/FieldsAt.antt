@@ -7,7 +7,6 @@ use Rattle.records.specs.Segments.{segment_fields}
 use Rattle.records.specs.Lines.{line_fields}
 use Rattle.records.specs.Headers.{header_fields}
 use Rattle.inspector.specs.declared.field.Field.{Field}
-use Rattle.inspector.specs.declared.field.Field.TheVariants as Field
 
 -- At an index among `count` records of `fields` fields each: the record, from 1, and its field, from 0; or what comes behind them all.
 abbrev pub among : (fields count : ℕ) → (ℕ → ℕ → Field) → (ℕ → Field) → ℕ → Field

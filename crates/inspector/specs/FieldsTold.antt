@@ -8,7 +8,6 @@ use Rattle.records.specs.Lines.{no_line}
 use Rattle.records.specs.Periods.{Period}
 use Rattle.records.specs.Numbers.{header_numbers_of, plant_numbers_of, segment_numbers_of, line_numbers_of}
 use Rattle.inspector.specs.declared.field.Field.{Field}
-use Rattle.inspector.specs.declared.field.Field.TheVariants as Field
 
 -- The number in a field of a period; 0 if there is no such field.
 abbrev pub stands_in : Field → Period → ℕ

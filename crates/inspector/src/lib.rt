@@ -1,7 +1,6 @@
 // The inspector's reader, which goes over a lent file from number to number (rule 11.3), and the names of fields (rule 11.5).
 //
-// The functions over the reader are proved by hand, since the kit by itself proves none over a struct that holds a reference.
-// So they are thin, and leave the work to `number`.
+// The functions over the reader are thin, and leave the work to `number`.
 #![tactic(auto)]
 
 mod after;

@@ -7,7 +7,7 @@ use native.Mathlib.Numerals.{add-one, add-two, add-three, add-four, add_five, ad
 use native.Mathlib.Omega.{arith}
 use lib.ListN.{length, take, drop, set, get_or}
 use lib.Seq.{sets, sets-eq, drop-drop, drop-cons}
-use borrow.Author.Tests.{le-leb, lt-leb}
+use borrow.Author.Tests.{le-leb}
 use Rattle.plain.specs.Bytes.{number_bytes, byte_values, whole_numbers, bytes_of, eight_bytes, value_of, first_numbers, table_numbers, plain_written}
 
 -- there are as many bytes as are asked for

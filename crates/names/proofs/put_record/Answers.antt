@@ -1,0 +1,6 @@
+-- `names::put_record` meets its contract: the name, and the number behind it. Assumes nothing.
+use Rattle.output.proofs.Putting.{put_then}
+use Rattle.names.proofs.put_record.Goals as goal
+
+pub returns : goal.returns
+returns c = put_then c.put_words-at.ensures c.put_spaced.ensures
