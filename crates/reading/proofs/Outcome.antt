@@ -9,13 +9,9 @@ use Rattle.fields.proofs.Outcome.{refusal_once, said_once}
 use Rattle.records.specs.declared.counts.Counts.{Counts}
 use Rattle.records.specs.declared.header.Header.{Header}
 use Rattle.reading.specs.declared.header.ReadHeader.{ReadHeader}
-use Rattle.reading.specs.declared.header.ReadHeader.TheVariants as ReadHeader
 use Rattle.reading.specs.declared.plants.ReadPlant.{ReadPlant}
-use Rattle.reading.specs.declared.plants.ReadPlant.TheVariants as ReadPlant
 use Rattle.reading.specs.declared.segments.ReadSegment.{ReadSegment}
-use Rattle.reading.specs.declared.segments.ReadSegment.TheVariants as ReadSegment
 use Rattle.reading.specs.declared.lines.ReadLine.{ReadLine}
-use Rattle.reading.specs.declared.lines.ReadLine.TheVariants as ReadLine
 use Rattle.reading.specs.Found.{header_found, plant_found, segment_found, line_found, ReadHeaderPromise, HeaderOfPromise, ReadPlantPromise, ReadSegmentPromise, ReadLinePromise, VerdictPromise}
 
 -- ---- what was found, of the header or where a record starts, determines the answer

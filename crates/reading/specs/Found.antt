@@ -14,13 +14,9 @@ use Rattle.records.specs.Headers.{header, header_of}
 use Rattle.records.specs.Periods as periods
 use Rattle.records.specs.Periods.{period_verdict}
 use Rattle.reading.specs.declared.header.ReadHeader.{ReadHeader}
-use Rattle.reading.specs.declared.header.ReadHeader.TheVariants as ReadHeader
 use Rattle.reading.specs.declared.plants.ReadPlant.{ReadPlant}
-use Rattle.reading.specs.declared.plants.ReadPlant.TheVariants as ReadPlant
 use Rattle.reading.specs.declared.segments.ReadSegment.{ReadSegment}
-use Rattle.reading.specs.declared.segments.ReadSegment.TheVariants as ReadSegment
 use Rattle.reading.specs.declared.lines.ReadLine.{ReadLine}
-use Rattle.reading.specs.declared.lines.ReadLine.TheVariants as ReadLine
 
 -- The counts of the header, with the spot of the first record; or a refusal.
 abbrev pub header_found : ReadHeader → Reach Counts

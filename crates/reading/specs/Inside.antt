@@ -2,7 +2,6 @@
 use Rattle.std.specs.Prelude.{◌≡◌}
 use Rattle.fields.specs.Reaching.{Reach, whole, stopped_by}
 use Rattle.reading.specs.declared.whole.ReadRecords.{ReadRecords}
-use Rattle.reading.specs.declared.whole.ReadRecords.TheVariants as ReadRecords
 
 -- What reading gives, if the code keeps nothing of it: something was read, whatever it was, or it was refused.
 abbrev pub PassedOver : {A : Type 0} → ReadRecords → Reach A → Type 0

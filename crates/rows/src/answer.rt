@@ -10,14 +10,14 @@ use period::{PLANT_NUMBERS, SEGMENT_NUMBERS, quantify};
 use records::{Plant, Segment};
 
 // Prints the answer to the file in the first `bytes` bytes of the room; answers the text, or nothing if it could not be written.
-pub(crate) fn print_answer(room: &mut [u8], bytes: usize) -> &[u8]
+pub(crate) fn print_answer<'a>(rt: &HostRuntime, room: &'a mut [u8], bytes: usize) -> &'a [u8]
     requires bytes_in_bounds { bytes ≤ length room.old }
     requires most_rows_text_in_bounds { most_rows_text ≤ length room.old }
     ensures { HandedOver result.now (printed_rows (take bytes room.old)) }
 {
     let end = put_answer(room, bytes);
     let text = &room[..];
-    print(b"rows", &text[..end])
+    print(rt, b"rows", &text[..end])
 }
 
 // Puts that text over the file, and answers the byte behind it. The tables have room for every period, so there is no 14 or 15.
