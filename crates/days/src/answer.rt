@@ -9,14 +9,14 @@ use meter::{Figures, days};
 use output::{print, put_line, put_number, put_refusal};
 
 // Prints the answer to the sheet in the first `bytes` bytes of the room; answers the text, or nothing if it could not be written.
-pub(crate) fn print_answer(room: &mut [u8], bytes: usize) -> &[u8]
+pub(crate) fn print_answer<'a>(rt: &HostRuntime, room: &'a mut [u8], bytes: usize) -> &'a [u8]
     requires bytes_in_bounds { bytes ≤ length room.old }
     requires most_days_text_in_bounds { most_days_text ≤ length room.old }
     ensures { HandedOver result.now (printed_days (take bytes room.old)) }
 {
     let end = put_answer(room, bytes);
     let text = &room[..];
-    print(b"days", &text[..end])
+    print(rt, b"days", &text[..end])
 }
 
 // Puts that text over the sheet, and answers the byte behind it.

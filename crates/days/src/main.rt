@@ -9,11 +9,11 @@ use crate::room::room;
 use input::{Input, read_input};
 
 // If standard input cannot be read, `read_input` says so, and nothing is printed.
-fn main() {
+fn main(rt: HostRuntime) {
     let mut room = room();
-    let input = read_input(b"days", &mut room);
+    let input = read_input(&rt, b"days", &mut room);
     let Input::File { bytes } = input else {
         return;
     };
-    print_answer(&mut room, bytes);
+    print_answer(&rt, &mut room, bytes);
 }

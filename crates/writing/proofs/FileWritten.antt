@@ -23,7 +23,6 @@ use Rattle.fields.specs.Written.{file_of, fitting, write_verdict, buffer_after}
 use Rattle.fields.proofs.WrittenFiles.{file_none, file_more, file_both, file_most, list_as_file}
 use Rattle.writing.specs.declared.bytes.Written.{Written}
 use Rattle.writing.specs.declared.list.Tested.{Tested}
-use Rattle.writing.specs.declared.list.Tested.TheVariants as Tested
 use Rattle.writing.specs.Written.{WrittenBy}
 use Rattle.writing.specs.Inside.{said_of}
 

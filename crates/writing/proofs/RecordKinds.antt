@@ -1,11 +1,11 @@
 -- The kinds of records, by the laws of each: how its numbers are needed, and what its fields allow.
 use Prim.Native.Nat.{ℕ, suc, ◌+◌, ◌≤◌, ◌<◌}
-use mathlib.Core.Path.{◌≡◌, refl, sym, ap, ◌∙◌}
+use mathlib.Core.Path.{◌≡◌, sym, ap}
 use mathlib.Core.Bool.{Bool}
 use mathlib.Core.List.{List, [], ◌∷◌}
 use native.Mathlib.Numerals.{add-one}
 use native.Mathlib.Omega.{arith}
-use lib.ListN.{length, get_or, take, replicate}
+use lib.ListN.{length, take, replicate}
 use lib.Seq.{length-take-le, take_all}
 use Rattle.fields.specs.declared.spot.Spot.{Spot}
 use Rattle.fields.specs.Readers.{Reader, return, onward, allows_next}
@@ -19,7 +19,6 @@ use Rattle.records.specs.Lines.{line_fields}
 use Rattle.records.specs.FieldTests.{PlantAllows, SegmentAllows, LineAllows}
 use Rattle.records.proofs.RecordFields.{plant_wants, plant_made, segment_wants, segment_made, line_wants, line_made}
 use Rattle.writing.specs.declared.record.Kind.{Kind}
-use Rattle.writing.specs.declared.record.Kind.TheVariants as Kind
 use Rattle.writing.specs.Inside.{Of, record_of, fields_of, reason_of}
 
 -- no kind has more numbers than a line

@@ -4,7 +4,6 @@ use Rattle.fields.specs.declared.reason.Reason.{Reason}
 use Rattle.fields.specs.declared.reason.Reason.TheVariants.{WrongPlant, WrongSegment, WrongLine}
 use Rattle.fields.specs.declared.spot.Spot.{Spot}
 use Rattle.fields.specs.declared.taking.Taken.{Taken}
-use Rattle.fields.specs.declared.taking.Taken.TheVariants as Taken
 use Rattle.fields.specs.Answers.{Verdict, accepts, refusing}
 use Rattle.fields.specs.Readers.{Reader}
 use Rattle.fields.specs.Spots.{taking_at, took}
@@ -19,11 +18,8 @@ use Rattle.records.specs.Segments.{segment_fields}
 use Rattle.records.specs.Lines.{line_fields}
 use Rattle.records.specs.Periods as periods
 use Rattle.writing.specs.declared.list.Tested.{Tested}
-use Rattle.writing.specs.declared.list.Tested.TheVariants as Tested
 use Rattle.writing.specs.declared.period.TestedHeader.{TestedHeader}
-use Rattle.writing.specs.declared.period.TestedHeader.TheVariants as TestedHeader
 use Rattle.writing.specs.declared.record.Kind.{Kind}
-use Rattle.writing.specs.declared.record.Kind.TheVariants as Kind
 
 -- A spot of a list's file: the number with that place is at that byte, or the file ends there.
 pub record At (numbers : List ℕ) (at : Spot) : Type 0 where

@@ -1,25 +1,17 @@
 -- `writing::list::nothing_left` meets its contract: the list ends there if and only if its file does. Assumes nothing.
 use Prim.Native.Nat.{◌≤◌}
-use mathlib.Core.Path.{◌≡◌, ap, ◌∙◌}
+use mathlib.Core.Path.{ap, ◌∙◌}
 use native.Mathlib.Omega.{arith}
 use lib.ListN.{length}
 use Rattle.plain.specs.Bytes.{table_numbers}
 use Rattle.fields.specs.declared.answer.Refusal.{Refusal}
 use Rattle.fields.specs.Answers.{refusing}
 use Rattle.writing.proofs.ListSpots.{listed_length, end_byte, ended_there, left_there}
-use borrow.Author.Rules.{rules}
-use Rattle.writing.proofs.list.nothing_left.Statement.{statement}
-use Rattle.writing.proofs.list.nothing_left.Tie as tie
+use Rattle.writing.proofs.list.nothing_left.Goals as goal
 
-room-requires : tie.Need-room-requires
-room-requires c κs = search rules
-
-refusal-requires : tie.Need-refusal-requires
-refusal-requires c κs = search rules
-
-returns : tie.Need-returns
-returns c =
-    let s = c.before.before.before.before in
+pub returns-then-index-room : goal.returns-then-index-room
+returns-then-index-room c =
+    let s = c in
     let ns = table_numbers s.args.numbers.now in
     record {
       says =
@@ -28,12 +20,9 @@ returns c =
       ends = tt;
     }
 
-returns-2 : tie.Need-returns-2
-returns-2 c =
-    let s = c.before.before.before in
+pub returns : goal.returns
+returns c =
+    let s = c in
     let ns = table_numbers s.args.numbers.now in
     let all : length ns ≤ s.args.at.place = omega (arith, listed_length s.args.numbers.now) in
     record { says = ended_there ns s.args.at s.requires all; ends = end_byte ns s.args.at s.requires all }
-
-pub nothing-left-spec : {M : Type 1} → statement M
-nothing-left-spec = tie.close (tie.spec room-requires refusal-requires returns returns-2)
