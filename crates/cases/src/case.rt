@@ -46,9 +46,9 @@ pub(crate) enum Head {
 }
 
 // Reads the head of the next case from standard input.
-pub(crate) fn next_head() -> Head {
+pub(crate) fn next_head(rt: &HostRuntime) -> Head {
     let mut head = [0u8; HEAD_BYTES];
-    let input = read_input(b"cases", &mut head);
+    let input = read_input(rt, b"cases", &mut head);
     let Input::File { bytes } = input else {
         return Head::Nothing;
     };
@@ -57,16 +57,17 @@ pub(crate) fn next_head() -> Head {
     }
     if bytes < HEAD_BYTES {
         complain(
+            rt,
             b"cases",
             b"the input ends inside a case's kind, asked byte and count",
         );
         return Head::Nothing;
     }
-    head_of(&head)
+    head_of(rt, &head)
 }
 
 // What the bytes of a head say. A kind that is neither letter is said on standard error.
-fn head_of(head: &[u8; HEAD_BYTES]) -> Head {
+fn head_of(rt: &HostRuntime, head: &[u8; HEAD_BYTES]) -> Head {
     let at = number_of(head, ASKED_START, ASKED_BYTES) as usize;
     let count = number_of(head, COUNT_START, COUNT_BYTES) as usize;
     match head[KIND_START] {
@@ -79,7 +80,7 @@ fn head_of(head: &[u8; HEAD_BYTES]) -> Head {
             count,
         },
         _ => {
-            complain(b"cases", b"a case's kind is neither N nor P");
+            complain(rt, b"cases", b"a case's kind is neither N nor P");
             Head::Nothing
         }
     }

@@ -16,45 +16,45 @@ use input::{Input, read_input};
 use output::{complain, print};
 
 // The rooms, for a case's file and for its line, are made once and lent to every case.
-fn main() {
+fn main(rt: HostRuntime) {
     let mut room = io::large_buffer();
     let mut text = io::large_buffer();
-    answer_all(&mut room, &mut text);
+    answer_all(&rt, &mut room, &mut text);
 }
 
 // Answers all cases. A proved loop has to end, and the input may not: so turns are counted down, from a number that no run uses up.
-fn answer_all(room: &mut [u8], text: &mut [u8]) {
+fn answer_all(rt: &HostRuntime, room: &mut [u8], text: &mut [u8]) {
     let mut turns = u64::MAX;
-    while 0 < turns && answer(room, text) {
+    while 0 < turns && answer(rt, room, text) {
         turns -= 1;
     }
 }
 
 // Answers the next case, and says whether to go on.
-fn answer(room: &mut [u8], text: &mut [u8]) -> bool {
-    let head = next_head();
+fn answer(rt: &HostRuntime, room: &mut [u8], text: &mut [u8]) -> bool {
+    let head = next_head(rt);
     let Head::Whole { kind, count } = head else {
         return false;
     };
     if room.len() < count {
-        complain(b"cases", b"a case's file is over 65536 bytes");
+        complain(rt, b"cases", b"a case's file is over 65536 bytes");
         return false;
     }
-    if !take_file(&mut room[..count]) {
+    if !take_file(rt, &mut room[..count]) {
         return false;
     }
     let end = put_answer(text, &room[..count], kind);
-    print_front(text, end)
+    print_front(rt, text, end)
 }
 
 // Reads a case's file, which is as long as what is lent, and answers whether it is whole.
-fn take_file(file: &mut [u8]) -> bool {
-    let input = read_input(b"cases", file);
+fn take_file(rt: &HostRuntime, file: &mut [u8]) -> bool {
+    let input = read_input(rt, b"cases", file);
     let Input::File { bytes } = input else {
         return false;
     };
     if bytes < file.len() {
-        complain(b"cases", b"the input ends inside a case's file");
+        complain(rt, b"cases", b"the input ends inside a case's file");
         return false;
     }
     true
@@ -69,10 +69,10 @@ fn put_answer(text: &mut [u8], file: &[u8], kind: Kind) -> usize {
 }
 
 // Prints the line that was put, and answers whether it could be written. A line that ends past the room is not whole, and not printed.
-fn print_front(text: &[u8], end: usize) -> bool {
+fn print_front(rt: &HostRuntime, text: &[u8], end: usize) -> bool {
     if text.len() < end {
-        complain(b"cases", b"a line is longer than there is room for");
+        complain(rt, b"cases", b"a line is longer than there is room for");
         return false;
     }
-    print(b"cases", &text[..end]).len() == end
+    print(rt, b"cases", &text[..end]).len() == end
 }

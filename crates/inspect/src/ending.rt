@@ -28,6 +28,7 @@ enum Stop {
 
 // Prints the text that waits in the room, and behind it the end of the page; the walk stopped at this spot and field.
 pub(crate) fn print_ending(
+    rt: &HostRuntime,
     room: &mut [u8],
     at: usize,
     file: &[u8],
@@ -38,7 +39,7 @@ pub(crate) fn print_ending(
     requires { at + most_page_text ≤ length room.old }
 {
     let end = put_ending(room, at, file, cut, spot, field);
-    print(b"inspect", &room[..end]);
+    print(rt, b"inspect", &room[..end]);
 }
 
 // Puts the end of the page: the line of a number that has a fault, the line of a refused file, and the stop (rules 11.6 and 11.7).

@@ -11,16 +11,16 @@ use crate::room::text_room;
 use input::{Input, read_input};
 
 // If standard input cannot be read, `read_input` says so, and nothing is printed.
-fn main() {
+fn main(rt: HostRuntime) {
     let mut room = io::large_buffer();
     // The last byte of the room is not walked: it shows that a file goes on.
     let most = room.len() - 1;
-    let input = read_input(b"inspect", &mut room);
+    let input = read_input(&rt, b"inspect", &mut room);
     let Input::File { bytes } = input else {
         return;
     };
     let cut = most < bytes;
     let walked = if cut { most } else { bytes };
     let mut text = text_room();
-    print_page(&mut text, &room[..walked], cut);
+    print_page(&rt, &mut text, &room[..walked], cut);
 }

@@ -14,7 +14,7 @@ use output::{print, put_number, put_spaced};
 use reading::{header_of, verdict};
 
 // Walks a file, or the front of a cut one, up to the first step that finds no number. Lines wait in the room until it is nearly full.
-pub(crate) fn print_page(room: &mut [u8], file: &[u8], cut: bool)
+pub(crate) fn print_page(rt: &HostRuntime, room: &mut [u8], file: &[u8], cut: bool)
     requires { most_page_text ≤ length room.old }
 {
     let header = header_of(file);
@@ -28,13 +28,13 @@ pub(crate) fn print_page(room: &mut [u8], file: &[u8], cut: bool)
         let found = report.number;
         let field = field_at(header, place);
         let Number::Value { value, next: _ } = found else {
-            print_ending(room, end, file, cut, Spot { byte, place }, field);
+            print_ending(rt, room, end, file, cut, Spot { byte, place }, field);
             return;
         };
         let marked = is_marked(answer, byte);
         end = put_number_line(room, end, Spot { byte, place }, value, field, marked);
         if room.len() - end < MOST_TEXT {
-            if print(b"inspect", &room[..end]).len() < end {
+            if print(rt, b"inspect", &room[..end]).len() < end {
                 return;
             }
             end = 0;

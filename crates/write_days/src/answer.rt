@@ -11,14 +11,19 @@ use typing::{Listed, list_room, list_text, put_fault, put_written};
 use writing::write_sheet;
 
 // Prints the answer to the text in the first `bytes` bytes of the room; answers what it printed, or nothing if it could not be written.
-pub(crate) fn print_answer<'a>(room: &[u8], bytes: usize, buffer: &'a mut [u8]) -> &'a [u8]
+pub(crate) fn print_answer<'a>(
+    rt: &HostRuntime,
+    room: &[u8],
+    bytes: usize,
+    buffer: &'a mut [u8],
+) -> &'a [u8]
     requires bytes_in_bounds { bytes ≤ length room.now }
     requires most_sheet_bytes_in_bounds { most_sheet_bytes ≤ length buffer.old }
     ensures { HandedOver result.now (printed_write_days (take bytes room.now)) }
 {
     let end = put_answer(buffer, &room[..bytes]);
     let answer = &buffer[..];
-    print(b"write_days", &answer[..end])
+    print(rt, b"write_days", &answer[..end])
 }
 
 // Puts that answer at the start of the buffer, and answers the byte behind it. The list has room for every text, and the buffer for every sheet: so

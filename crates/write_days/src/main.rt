@@ -10,12 +10,12 @@ use input::{Input, read_input};
 use typing::text_room;
 
 // If standard input cannot be read, `read_input` says so, and nothing is printed.
-fn main() {
+fn main(rt: HostRuntime) {
     let mut text = text_room();
-    let input = read_input(b"write_days", &mut text);
+    let input = read_input(&rt, b"write_days", &mut text);
     let Input::File { bytes } = input else {
         return;
     };
     let mut buffer = room();
-    print_answer(&text, bytes, &mut buffer);
+    print_answer(&rt, &text, bytes, &mut buffer);
 }
