@@ -14,7 +14,7 @@ use Rattle.number.proofs.groups.form.Goals.{then-count-gt1+else-group-eq0, else-
 pub returns-then-group-eq0 : goal.returns-then-group-eq0
 returns-then-group-eq0 c =
     let s = c in
-    sym (ap (from s.args.at) (zero_last s.args.count s.args.group s.args.groups.now s.requires.counted (omega arith) c.if-group-eq0.true))
+    sym (ap (from s.args.at) (zero_last s.args.count s.args.group s.args.groups.now s.requires.counted (omega arith) (omega arith)))
 
 pub value_of-value-requires : goal.value_of-value-requires
 value_of-value-requires c = record {

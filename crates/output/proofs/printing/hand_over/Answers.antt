@@ -1,12 +1,9 @@
 -- `output::printing::hand_over` meets its contract and ends: each turn leaves less of the text, and after the last all of it is taken. Assumes nothing.
-use mathlib.Core.Path.{refl, sym}
-use mathlib.Core.Logic.{inl, inr}
+use mathlib.Core.Path.{sym}
+use mathlib.Core.Logic.{inl}
 use native.Mathlib.Omega.{arith}
 use lib.Seq.{take_all, length-take-le}
 use Rattle.output.proofs.printing.hand_over.Goals as goal
-
-pub returns-then-more-eq0 : goal.returns-then-more-eq0
-returns-then-more-eq0 g c = inr refl
 
 pub slice_bounds-result-end-2 : goal.slice_bounds-result-end-2
 slice_bounds-result-end-2 g c = sym (length-take-le _ _ (omega arith))

@@ -30,10 +30,11 @@ returns-then-value-gt-LARGEST c =
     let ns = table_numbers a.numbers.now in
     let more : a.at.place < length ns = omega (arith, listed_length a.numbers.now) in
     let value-is = c.plain_at-value.ensures in
+    let over : largest < c.plain_at-value.result = omega arith in
     record {
       is =
           ap (λ (r : Refusal). no_value (notice_of r)) c.refusal-then-value-gt-LARGEST.ensures
-          ∙ listed_over ns a.at c.requires more (rw value-is at c.if-value-gt-LARGEST.true);
+          ∙ listed_over ns a.at c.requires more (rw value-is at over);
       next_at = tt;
     }
 
