@@ -12,67 +12,68 @@ mod readings;
 use crate::case::{Head, Kind, next_head};
 use crate::numbers::put_found;
 use crate::readings::put_reading;
-use input::{Input, read_input};
-use output::{complain, print};
+use input::read_input;
+use output::{Text, complain, print};
+
+// The most bytes of a line.
+const MOST_LINE: usize = 65_536;
+
+// The text of a case's line.
+pub(crate) type LineText = Text<MOST_LINE>;
 
 // The rooms, for a case's file and for its line, are made once and lent to every case.
 fn main(rt: HostRuntime) {
     let mut room = io::large_buffer();
-    let mut text = io::large_buffer();
+    let mut text = LineText::new();
     answer_all(&rt, &mut room, &mut text);
 }
 
-// Answers all cases. A proved loop has to end, and the input may not: so turns are counted down, from a number that no run uses up.
-fn answer_all(rt: &HostRuntime, room: &mut [u8], text: &mut [u8]) {
-    let mut turns = u64::MAX;
-    while 0 < turns && answer(rt, room, text) {
-        turns -= 1;
+// Answers all cases. A proved loop has to end, and the input may not: so turns are counted, up to a number that no run reaches.
+fn answer_all(rt: &HostRuntime, room: &mut [u8], text: &mut LineText) {
+    for _ in 0..u64::MAX {
+        if answer(rt, room, text).is_none() {
+            return;
+        }
     }
 }
 
-// Answers the next case, and says whether to go on.
-fn answer(rt: &HostRuntime, room: &mut [u8], text: &mut [u8]) -> bool {
-    let head = next_head(rt);
-    let Head::Whole { kind, count } = head else {
-        return false;
-    };
+// Answers the next case; nothing if that cannot be done, and the run ends.
+fn answer(rt: &HostRuntime, room: &mut [u8], text: &mut LineText) -> Option<()> {
+    let Head { kind, count } = next_head(rt)?;
     if room.len() < count {
         complain(rt, b"cases", b"a case's file is over 65536 bytes");
-        return false;
+        return None;
     }
-    if !take_file(rt, &mut room[..count]) {
-        return false;
-    }
-    let end = put_answer(text, &room[..count], kind);
-    print_front(rt, text, end)
+    take_file(rt, &mut room[..count])?;
+    text.end = 0;
+    put_answer(text, &room[..count], kind);
+    print_line(rt, text)
 }
 
-// Reads a case's file, which is as long as what is lent, and answers whether it is whole.
-fn take_file(rt: &HostRuntime, file: &mut [u8]) -> bool {
-    let input = read_input(rt, b"cases", file);
-    let Input::File { bytes } = input else {
-        return false;
-    };
+// Reads a case's file, which is as long as what is lent; nothing if it is not whole.
+fn take_file(rt: &HostRuntime, file: &mut [u8]) -> Option<()> {
+    let bytes = read_input(rt, b"cases", file)?;
     if bytes < file.len() {
         complain(rt, b"cases", b"the input ends inside a case's file");
-        return false;
+        return None;
     }
-    true
+    Some(())
 }
 
 // Puts the line of a case, by what its kind asks of its file.
-fn put_answer(text: &mut [u8], file: &[u8], kind: Kind) -> usize {
+fn put_answer(text: &mut LineText, file: &[u8], kind: Kind) {
     match kind {
         Kind::Number { at } => put_found(text, file, at),
         Kind::Period => put_reading(text, file),
     }
 }
 
-// Prints the line that was put, and answers whether it could be written. A line that ends past the room is not whole, and not printed.
-fn print_front(rt: &HostRuntime, text: &[u8], end: usize) -> bool {
-    if text.len() < end {
+// Prints the line that was put; nothing if it could not be written. A line that ends past the room is not whole, and not printed.
+fn print_line(rt: &HostRuntime, text: &LineText) -> Option<()> {
+    let Some(line) = text.whole() else {
         complain(rt, b"cases", b"a line is longer than there is room for");
-        return false;
-    }
-    print(rt, b"cases", &text[..end]).len() == end
+        return None;
+    };
+    print(rt, b"cases", line)?;
+    Some(())
 }

@@ -3,7 +3,7 @@ use Prim.Native.Nat.{ℕ, ◌≤◌}
 use mathlib.Core.List.{List, [], ◌∷◌}
 use native.Mathlib.Nat.{le_trans}
 use native.Mathlib.Omega.{arith}
-use lib.ListN.{length, take, length-append}
+use lib.ListN.{length, length-append}
 use Rattle.meter.specs.Days.{SheetAnswer, figures, refusal, meter_days}
 use Rattle.output.specs.Words.{ascii}
 use Rattle.output.specs.Decimal.{decimal}
@@ -20,14 +20,13 @@ answer_room (figures found) =
     rw (length-append (decimal found.sum) (text_line [] days)) (omega (arith, decimal_long found.sum, line_long [] days))
 answer_room (refusal notice) = omega (arith, line_long (ascii "R") (notice.number ∷ notice.place ∷ notice.offset ∷ []))
 
-text_room : (sheet : List ℕ) → length (answer_text (meter_days sheet)) ≤ most_days_text
+text_room : (sheet : List ℕ) → length (printed_days sheet) ≤ most_days_text
+unfolding printed_days
 text_room sheet = answer_room (meter_days sheet)
 
--- so the room holds a sheet's text that is put at its start
+-- so a room holds a sheet's text that is put at its start
 pub held :
-    (room : List ℕ) (bytes : ℕ) {end : ℕ} {room' : List ℕ} → Put (answer_text (meter_days (take bytes room))) 0 room end room' →
-    most_days_text ≤ length room → Holds (printed_days (take bytes room)) end room'
-unfolding printed_days
-held room bytes put enough =
-    let fits = le_trans (text_room (take bytes room)) enough in
+    (sheet : List ℕ) {room : List ℕ} {end : ℕ} {room' : List ℕ} → Put (printed_days sheet) 0 room end room' → most_days_text ≤ length room → Holds (printed_days sheet) end room'
+held sheet put enough =
+    let fits = le_trans (text_room sheet) enough in
     record { within = put_within put fits; stands = put_whole put fits }

@@ -9,7 +9,7 @@ use Rattle.number.proofs.Counting.{next_start}
 use Rattle.fields.specs.declared.spot.Spot.{Spot}
 use Rattle.fields.specs.Readers.{Reader, return, needs, ◌>>=◌, each, read, consumes}
 use Rattle.fields.specs.Spots.{place_after}
-use Rattle.fields.specs.Reaching.{whole, reads_from}
+use Rattle.fields.specs.Reaching.{whole, reads_by, reads_from}
 use Rattle.fields.specs.Lists.{Each, in_turn}
 use Rattle.fields.proofs.FieldByField.{Comes, done as all_read, goes}
 use Rattle.fields.proofs.Reaching.{spot_passed, spot_wrong, spot_fault}
@@ -32,7 +32,7 @@ consumed_has {file} P given (goes {at} {v} {n} e h later) =
 pub whole_has :
     {A : Type 0} (P : A → Type 0) (file : List ℕ) (reader : Reader A) (at : Spot) (what : A) (next : Spot) → Gives (λ numbers. P) reader →
     reads_from reader file at ≡ whole what next → P what
-unfolding Gives reads_from
+unfolding Gives reads_by
 whole_has P file (return one) at what next given e = let same : one ≡ what = cc in rw same at given
 whole_has P file (needs reason allowed then) at what next given e =
     by_number (read_at file at.byte) refl (λ v to its rest. whole_has P file (then v) to what next its rest)
@@ -57,7 +57,7 @@ pub whole_starts :
     {A : Type 0} (P : List ℕ → A → Type 0) (file : List ℕ) (reader : Reader A) (at : Spot) (k : ℕ) (what : A) (next : Spot) → Gives P reader →
     at.byte ≡ start_of file k → reads_from reader file at ≡ whole what next →
     (numbers : List ℕ) × P numbers what × (next.byte ≡ start_of file (length numbers + k))
-unfolding Gives reads_from
+unfolding Gives reads_by
 whole_starts P file (return one) at k what next given here e =
     let same : one ≡ what = cc in
     let there : at ≡ next = cc in

@@ -1,15 +1,13 @@
 -- One reader after another, and the end of a file.
-use Rattle.std.proofs.Common.{◌≡◌, ℕ, suc, ◌<◌, ◌≤◌, Bool, true, false, cond, List, length, sym, refl, ap, ◌∙◌, true≢false, arith, le-ltb, lt-ltb}
+use Rattle.std.proofs.Common.{Err, ◌≡◌, ℕ, suc, ◌<◌, ◌≤◌, Bool, true, false, cond, List, length, sym, refl, ap, ◌∙◌, true≢false, arith, le-ltb, lt-ltb}
 use native.Mathlib.Decide.{dec_le}
 use Rattle.number.specs.Reading.{Found, read_at, offset_at}
 use Rattle.number.specs.Reading.Found.{number as a_number_found, fault as one_fault}
-use Rattle.fields.specs.declared.answer.Answer.{Answer}
-use Rattle.fields.specs.declared.answer.Answer.TheVariants.{Accepted, Refused}
 use Rattle.fields.specs.declared.answer.Refusal.{Refusal}
 use Rattle.fields.specs.declared.reason.Reason.TheVariants.{BytesAfter}
 use Rattle.fields.specs.declared.spot.Spot.{Spot}
 use Rattle.fields.specs.Reasons.{number_of}
-use Rattle.fields.specs.Answers.{Notice, notice, accepts, refuses, refusing, said}
+use Rattle.fields.specs.Answers.{Answer, accepted, Notice, notice, accepts, refuses, refusing, said}
 use Rattle.fields.specs.Readers.{Reader, return, needs, ◌>>=◌, Read, read, refused, on_found, reads}
 use Rattle.fields.specs.Files.{ended, read_verdict}
 use Rattle.fields.specs.Spots.{end_at}
@@ -81,7 +79,7 @@ end_verdict file at what = by_end (dec_le (length file) at.byte)
 -- ---- what the code's `nothing_after` says of it
 module _ {A : Type 0} (file : List ℕ) (at : Spot) (answer : Answer) (is : said answer ≡ end_at file at) (what : A) where
   -- bytes that follow are refused
-  pub bytes_after : (refusal : Refusal) → answer ≡ Refused refusal → ended file (read_to what at) ≡ refused_by refusal
+  pub bytes_after : (refusal : Refusal) → answer ≡ Err refusal → ended file (read_to what at) ≡ refused_by refusal
   bytes_after refusal e = by_end (dec_le (length file) at.byte) (sym (ap said e) ∙ is)
     where
       by_end : Dec (length file ≤ at.byte) → refusing refusal ≡ end_at file at → ended file (read_to what at) ≡ refused_by refusal
@@ -94,7 +92,7 @@ module _ {A : Type 0} (file : List ℕ) (at : Spot) (answer : Answer) (is : said
           more_left what at.place file at.byte more ∙ ap refused (cc)
 
   -- else the file ends there
-  pub file_ends : answer ≡ Accepted → ended file (read_to what at) ≡ read_to what at
+  pub file_ends : answer ≡ accepted → ended file (read_to what at) ≡ read_to what at
   file_ends e = by_end (dec_le (length file) at.byte) (sym (ap said e) ∙ is)
     where
       by_end : Dec (length file ≤ at.byte) → accepts ≡ end_at file at → ended file (read_to what at) ≡ read_to what at

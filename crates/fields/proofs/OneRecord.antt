@@ -1,34 +1,21 @@
--- The numbers of one record, taken one after another: one law for each way through a turn of that loop, over any record.
+-- The numbers of one record, taken one after another: one law for each way through a turn of that loop, over any record and whatever they are taken from.
 use Rattle.std.proofs.Common.{◌≡◌, ℕ, ◌+◌, ◌<◌, ◌≤◌, Bool, true, false, List, [], ◌∷◌, ◌++◌, length, get_or, take, set, replicate, sym, refl, ap, ◌∙◌, add-one, arith, length-set, length-take-le, take_all, take-suc-set}
 use lib.ListN.{length-replicate, get_or-replicate}
 use Rattle.number.specs.Groups.{largest}
-use Rattle.number.proofs.Laws.{bounds}
 use Rattle.fields.specs.declared.answer.Refusal.{Refusal}
 use Rattle.fields.specs.declared.reason.Reason.{Reason}
 use Rattle.fields.specs.declared.reason.Reason.TheVariants.{Ends}
 use Rattle.fields.specs.declared.spot.Spot.{Spot}
 use Rattle.fields.specs.Reasons.{number_of}
-use Rattle.fields.specs.Answers.{notice}
+use Rattle.fields.specs.Answers.{notice, notice_of}
 use Rattle.fields.specs.Readers.{Reader, return, needs, onward, allows_next}
-use Rattle.fields.specs.Spots.{refusal_at}
-use Rattle.fields.specs.Reaching.{whole, stopped, reads_from, stopped_by}
-use Rattle.fields.proofs.Takes.{ValueThere, FaultThere}
-use Rattle.fields.proofs.Reaching.{spot_passed, spot_wrong, spot_faulty}
+use Rattle.fields.specs.Spots.{refusal_at, Take}
+use Rattle.fields.specs.Spots.Take.{value as one_value, refusal as no_value}
+use Rattle.fields.specs.Wanting.{Wants, Allowed}
+use Rattle.fields.specs.Reaching.{whole, stopped, reads_by, stopped_by}
+use Rattle.fields.proofs.Reaching.{by_passed, by_wrong, by_fault}
 
 module _ {A : Type 0} where
-  -- ---- a record: a reader that needs a number for each of these reasons, and no more, whatever the numbers are
-  unfoldable pub Wants : List Reason → Reader A → Type 0
-  Wants [] (return what) = Unit {0}
-  Wants [] (needs reason allowed then) = ⊥
-  Wants (reason ∷ reasons) (return what) = ⊥
-  Wants (reason ∷ reasons) (needs its allowed then) = (its ≡ reason) × ((value : ℕ) → Wants reasons (then value))
-
-  -- some numbers that it took were allowed, each by its field
-  unfoldable pub Allowed : Reader A → List ℕ → Type 0
-  Allowed reader [] = Unit {0}
-  Allowed (return what) (value ∷ values) = ⊥
-  Allowed (needs reason allowed then) (value ∷ values) = (value ≤ largest) × (allowed value ≡ true) × Allowed (then value) values
-
   -- ---- a reader that has taken too few numbers needs one more, with the reason of that field
   data Needing : Reader A → Reason → Type 0 where
     needing : {reason : Reason} {allowed : ℕ → Bool} {then : ℕ → Reader A} → Needing (needs reason allowed then) reason
@@ -67,11 +54,11 @@ module _ {A : Type 0} where
   allowed_one {reason = reason} (return what) [] value need before small passed = elim need [ ]
 
   -- ---- the loop: so far f of the numbers are taken, and the next one is at a spot
-  module _ (reader : Reader A) (file : List ℕ) (start : Spot) (wanted : ℕ) where
+  module _ (reader : Reader A) (taken : Spot → Take) (start : Spot) (wanted : ℕ) where
     pub record Numbers (values : List ℕ) (at : Spot) (f : ℕ) : Type 0 where
       pub sized : length values ≡ wanted
       pub within : f ≤ wanted
-      pub comes_to : reads_from reader file start ≡ reads_from (onward reader (take f values)) file at
+      pub comes_to : reads_by reader taken start ≡ reads_by (onward reader (take f values)) taken at
       pub allowed : Allowed reader (take f values)
 
     -- before the first turn none is taken
@@ -80,19 +67,15 @@ module _ {A : Type 0} where
     none_taken values sized = record { sized = sized; within = omega arith; comes_to = refl; allowed = tt }
 
   module _
-      {reader : Reader A} {file : List ℕ} {start : Spot} {wanted : ℕ} {values : List ℕ} {at : Spot} {f : ℕ}
-      (so_far : Numbers reader file start wanted values at f) where
+      {reader : Reader A} {taken : Spot → Take} {start : Spot} {wanted : ℕ} {values : List ℕ} {at : Spot} {f : ℕ}
+      (so_far : Numbers reader taken start wanted values at f) where
     -- all are taken, and nothing else is needed: what was read
-    pub all_taken : (what : A) → wanted ≤ f → onward reader values ≡ return what → reads_from reader file start ≡ whole what at
-    unfolding reads_from
+    pub all_taken : (what : A) → wanted ≤ f → onward reader values ≡ return what → reads_by reader taken start ≡ whole what at
+    unfolding reads_by
     all_taken what all is =
         so_far.comes_to
-        ∙ ap (λ (l : List ℕ). reads_from (onward reader l) file at) (take_all f values (omega (arith, so_far.sized)))
-        ∙ ap (λ (r : Reader A). reads_from r file at) is
-
-    -- and all were allowed
-    pub all_allowed : wanted ≤ f → Allowed reader values
-    all_allowed all = rw (take_all f values (omega (arith, so_far.sized))) at so_far.allowed
+        ∙ ap (λ (l : List ℕ). reads_by (onward reader l) taken at) (take_all f values (omega (arith, so_far.sized)))
+        ∙ ap (λ (r : Reader A). reads_by r taken at) is
 
     -- the next number, of a record with these reasons
     module _ (reasons : List Reason) (wants : Wants reasons reader) (counted : length reasons ≡ wanted) (more : f < wanted) where
@@ -105,55 +88,55 @@ module _ {A : Type 0} where
       next_needed = rw before_length at (onward_needs reasons reader (take f values) wants (omega (arith, before_length)))
 
       -- it has a fault
-      pub next_faulty : (refusal : Refusal) → FaultThere file at refusal → reads_from reader file start ≡ stopped_by refusal
+      pub next_faulty : (refusal : Refusal) → taken at ≡ no_value (notice_of refusal) → reads_by reader taken start ≡ stopped_by refusal
       next_faulty refusal there = so_far.comes_to ∙ by_need (onward reader (take f values)) next_needed
         where
-          by_need : {reason : Reason} (rest : Reader A) → Needing rest reason → reads_from rest file at ≡ stopped_by refusal
-          by_need (needs reason allowed then) needing = spot_faulty file reason allowed then at refusal there
+          by_need : {reason : Reason} (rest : Reader A) → Needing rest reason → reads_by rest taken at ≡ stopped_by refusal
+          by_need (needs reason allowed then) needing = by_fault taken reason allowed then at there
           by_need {reason = reason} (return _) need = elim need [ ]
 
-      module _ (v : ℕ) (next : Spot) (there : ValueThere file at v next) where
+      module _ (v : ℕ) (next : Spot) (there : taken at ≡ one_value v next) where
         -- its field does not allow it
         pub next_wrong :
-            allows_next (onward reader (take f values)) v ≡ false → reads_from reader file start ≡ stopped (notice (number_of (get_or reasons f Ends)) at.place at.byte)
+            allows_next (onward reader (take f values)) v ≡ false → reads_by reader taken start ≡ stopped (notice (number_of (get_or reasons f Ends)) at.place at.byte)
         next_wrong wrong = so_far.comes_to ∙ by_need (onward reader (take f values)) next_needed wrong
           where
             by_need :
                 {reason : Reason} (rest : Reader A) → Needing rest reason → allows_next rest v ≡ false →
-                reads_from rest file at ≡ stopped (notice (number_of reason) at.place at.byte)
-            by_need (needs reason allowed then) needing is = spot_wrong file reason allowed then at v next there is
+                reads_by rest taken at ≡ stopped (notice (number_of reason) at.place at.byte)
+            by_need (needs reason allowed then) needing is = by_wrong taken reason allowed then at there is
             by_need {reason = reason} (return _) need is = elim need [ ]
 
         -- it is allowed: one number more is taken
         pub next_taken :
-            allows_next (onward reader (take f values)) v ≡ true → Numbers reader file start wanted (set values f v) next (f + 1)
-        next_taken passed =
-            let taken : take (f + 1) (set values f v) ≡ take f values ++ (v ∷ []) =
+            v ≤ largest → allows_next (onward reader (take f values)) v ≡ true → Numbers reader taken start wanted (set values f v) next (f + 1)
+        next_taken small passed =
+            let with_it : take (f + 1) (set values f v) ≡ take f values ++ (v ∷ []) =
             ap (λ (n : ℕ). take n (set values f v)) (add-one f) ∙ take-suc-set values f v (omega (arith, so_far.sized)) in
             let on : onward reader (take (f + 1) (set values f v)) ≡ one_onward (onward reader (take f values)) v =
-            ap (onward reader) taken ∙ onward_one reader (take f values) v in
+            ap (onward reader) with_it ∙ onward_one reader (take f values) v in
             record {
               sized = length-set values f v ∙ so_far.sized;
               within = omega arith;
               comes_to =
                   so_far.comes_to
                   ∙ by_need (onward reader (take f values)) next_needed passed
-                  ∙ ap (λ (r : Reader A). reads_from r file next) (sym on);
+                  ∙ ap (λ (r : Reader A). reads_by r taken next) (sym on);
               allowed =
-                  rw taken
-                  (allowed_one reader (take f values) v next_needed so_far.allowed (bounds file at.byte v next.byte there.stands).small passed);
+                  rw with_it
+                  (allowed_one reader (take f values) v next_needed so_far.allowed small passed);
             }
           where
             by_need :
                 {reason : Reason} (rest : Reader A) → Needing rest reason → allows_next rest v ≡ true →
-                reads_from rest file at ≡ reads_from (one_onward rest v) file next
-            by_need (needs reason allowed then) needing is = spot_passed file reason allowed then at v next there is
+                reads_by rest taken at ≡ reads_by (one_onward rest v) taken next
+            by_need (needs reason allowed then) needing is = by_passed taken reason allowed then at there is
             by_need {reason = reason} (return _) need is = elim need [ ]
 
     -- of a record whose fields all have one reason, a number that its field does not allow is refused for that
     pub one_wrong :
-        (reason : Reason) → Wants (replicate wanted reason) reader → f < wanted → (v : ℕ) (next : Spot) → ValueThere file at v next →
-        allows_next (onward reader (take f values)) v ≡ false → reads_from reader file start ≡ stopped_by (refusal_at at reason)
+        (reason : Reason) → Wants (replicate wanted reason) reader → f < wanted → (v : ℕ) (next : Spot) → taken at ≡ one_value v next →
+        allows_next (onward reader (take f values)) v ≡ false → reads_by reader taken start ≡ stopped_by (refusal_at at reason)
     one_wrong reason wants more v next there wrong =
         next_wrong (replicate wanted reason) wants (length-replicate wanted reason) more v next there wrong
         ∙ ap (λ (r : Reason). stopped (notice (number_of r) at.place at.byte)) (get_or-replicate wanted f reason Ends more)

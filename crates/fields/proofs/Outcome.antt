@@ -1,15 +1,12 @@
 -- No two outcomes meet a promise of this crate: what an answer says determines the answer.
-use Rattle.std.proofs.Common.{◌≡◌, ℕ, zero, suc, ◌<◌, List, [], ◌∷◌, get_or, sym, refl, ap, ◌∙◌, ap₂, true≢false, arith}
-use Rattle.fields.specs.declared.answer.Answer.{Answer}
-use Rattle.fields.specs.declared.answer.Answer.TheVariants.{Accepted, Refused}
+use Rattle.std.proofs.Common.{◌≡◌, ℕ, Ok, Err, zero, suc, ◌<◌, List, [], ◌∷◌, get_or, sym, refl, ap, ◌∙◌, ap₂, true≢false, arith}
 use Rattle.fields.specs.declared.answer.Refusal.{Refusal}
 use Rattle.fields.specs.declared.reason.Reason.{Reason}
 use Rattle.fields.specs.declared.reason.Reason.TheVariants.{Ends, NotShortest, TooLarge, WrongEdition, WrongCount, WrongPlant, WrongSegment, WrongLine, BytesAfter, TooManyGrams, InflowTooLarge, OutflowOverInflow, EmissionWithoutInflow, PlantTableShort, SegmentTableShort, CapturedOverFuel}
 use Rattle.fields.specs.declared.spot.Spot.{Spot}
-use Rattle.fields.specs.declared.taking.Taken.{Taken}
 use Rattle.fields.specs.Reasons.{number_of, ReasonNumberPromise}
-use Rattle.fields.specs.Answers.{Notice, notice_of, said, RefusedPromise, AnswerRefusalPromise, AnswerPlacePromise, AnswerOffsetPromise}
-use Rattle.fields.specs.Spots.{took, SpotFirstPromise, SpotRefusalPromise, TakePromise, NothingAfterPromise}
+use Rattle.fields.specs.Answers.{Answer, Notice, notice_of, said, RefusedPromise, AnswerRefusalPromise, AnswerPlacePromise, AnswerOffsetPromise}
+use Rattle.fields.specs.Spots.{Taken, took, SpotFirstPromise, SpotRefusalPromise, TakePromise, NothingAfterPromise}
 
 -- ---- each number has one reason
 -- the reasons by their numbers, from 0, which none has
@@ -60,16 +57,16 @@ refusal_once a b same =
     (numbered_once a.reason b.reason (ap (λ (n : Notice). n.number) same)) same
 
 pub said_once : (a b : Answer) → said a ≡ said b → a ≡ b
-said_once Accepted Accepted e = refl
-said_once Accepted (Refused b) e = absurd (true≢false (cc))
-said_once (Refused a) Accepted e = absurd (true≢false (cc))
-said_once (Refused a) (Refused b) e = ap Refused (refusal_once a b (cc))
+said_once (Ok done) (Ok done') e = refl
+said_once (Ok done) (Err b) e = absurd (true≢false (cc))
+said_once (Err a) (Ok done) e = absurd (true≢false (cc))
+said_once (Err a) (Err b) e = ap (λ (x : Refusal). Err x) (refusal_once a b (cc))
 
 pub took_once : (a b : Taken) → took a ≡ took b → a ≡ b
-took_once (Taken.Value v next) (Taken.Value w next') e = ap₂ Taken.Value (cc) (cc)
-took_once (Taken.Value v next) (Taken.Refused b) e = absurd (true≢false (cc))
-took_once (Taken.Refused a) (Taken.Value w next') e = absurd (true≢false (cc))
-took_once (Taken.Refused a) (Taken.Refused b) e = ap Taken.Refused (refusal_once a b (cc))
+took_once (Ok (v, next)) (Ok (w, next')) e = ap₂ (λ (x : ℕ) (s : Spot). Ok (x, s)) (cc) (cc)
+took_once (Ok (v, next)) (Err b) e = absurd (true≢false (cc))
+took_once (Err a) (Ok (w, next')) e = absurd (true≢false (cc))
+took_once (Err a) (Err b) e = ap (λ (x : Refusal). Err x) (refusal_once a b (cc))
 
 -- ---- the public functions
 -- `take`: two answers that meet its promise, of one file at one spot, are the same
@@ -80,7 +77,7 @@ one_taken file at r s p q = took_once r s (p ∙ sym q)
 pub one_end : (file : List ℕ) (at : Spot) (r s : Answer) → NothingAfterPromise file at r → NothingAfterPromise file at s → r ≡ s
 one_end file at r s p q = said_once r s (p ∙ sym q)
 
--- `Reason::number`, `Answer::refused`, `Answer::refusal`, `Answer::place`, `Answer::offset`, `Spot::first` and `Spot::refusal`: their promises give the result itself
+-- `Reason::number`, `refused`, `refusal_number`, `refusal_place`, `refusal_offset`, `Spot::first` and `Spot::refusal`: their promises give the result itself
 pub one_number : (reason : Reason) (r s : ℕ) → ReasonNumberPromise reason r → ReasonNumberPromise reason s → r ≡ s
 one_number reason r s p q = p ∙ sym q
 

@@ -12,39 +12,48 @@ use Rattle.fields.specs.Readers.{Reader, return, needs, ◌>>=◌, Read, refused
 use Rattle.fields.specs.Files.{ended, file_read}
 use Rattle.fields.specs.Spots.{first_spot, place_after, Take, taking, taking_at}
 use Rattle.fields.specs.Spots.Take.{value, refusal as no_value}
-use Rattle.fields.specs.Reaching.{Reach, whole, stopped, going_on, reads_from, stopped_by, as_read}
+use Rattle.fields.specs.Reaching.{Reach, whole, stopped, going_on, reads_by, reads_from, stopped_by, as_read}
 use Rattle.fields.proofs.FieldByField.{field_passed, field_wrong, field_faulty}
-use Rattle.fields.proofs.Takes.{one_place_on, ValueThere, FaultThere}
+use Rattle.fields.proofs.Takes.{one_place_on, ValueThere, value_taken, FaultThere}
 
 -- ---- one field: what a reader gives that needs a number at a spot
-module _ {A : Type 0} (file : List ℕ) (reason : Reason) (allowed : ℕ → Bool) (then : ℕ → Reader A) (at : Spot) where
+module _ {A : Type 0} (taken : Spot → Take) (reason : Reason) (allowed : ℕ → Bool) (then : ℕ → Reader A) (at : Spot) where
   -- what was taken there decides
   by_taken : Take → Reach A
-  by_taken taken = going_on taken (λ (v : ℕ) (next : Spot). cond (allowed v) (reads_from (then v) file next) (stopped (notice (number_of reason) at.place at.byte)))
+  by_taken found = going_on found (λ (v : ℕ) (next : Spot). cond (allowed v) (reads_by (then v) taken next) (stopped (notice (number_of reason) at.place at.byte)))
 
-  module _ (v : ℕ) (next : Spot) (there : ValueThere file at v next) where
-    tested : reads_from (needs reason allowed then) file at ≡ cond (allowed v) (reads_from (then v) file next) (stopped (notice (number_of reason) at.place at.byte))
-    unfolding reads_from by_taken
-    tested =
-        ap (λ (found : Found). by_taken (taking at (offset_at file at.byte) found)) there.stands
-        ∙ ap (λ (p : ℕ). by_taken (value v (record { byte = next.byte; place = p }))) (sym there.place_on)
+  module _ {v : ℕ} {next : Spot} (there : taken at ≡ value v next) where
+    tested : reads_by (needs reason allowed then) taken at ≡ cond (allowed v) (reads_by (then v) taken next) (stopped (notice (number_of reason) at.place at.byte))
+    unfolding reads_by by_taken
+    tested = ap by_taken there
 
     -- a number that is allowed: the rest decides
-    pub spot_passed : allowed v ≡ true → reads_from (needs reason allowed then) file at ≡ reads_from (then v) file next
-    spot_passed h = tested ∙ ap (λ (t : Bool). cond t (reads_from (then v) file next) (stopped (notice (number_of reason) at.place at.byte))) h
+    pub by_passed : allowed v ≡ true → reads_by (needs reason allowed then) taken at ≡ reads_by (then v) taken next
+    by_passed h = tested ∙ ap (λ (t : Bool). cond t (reads_by (then v) taken next) (stopped (notice (number_of reason) at.place at.byte))) h
 
     -- a number that is not allowed
-    pub spot_wrong : allowed v ≡ false → reads_from (needs reason allowed then) file at ≡ stopped (notice (number_of reason) at.place at.byte)
-    spot_wrong h = tested ∙ ap (λ (t : Bool). cond t (reads_from (then v) file next) (stopped (notice (number_of reason) at.place at.byte))) h
+    pub by_wrong : allowed v ≡ false → reads_by (needs reason allowed then) taken at ≡ stopped (notice (number_of reason) at.place at.byte)
+    by_wrong h = tested ∙ ap (λ (t : Bool). cond t (reads_by (then v) taken next) (stopped (notice (number_of reason) at.place at.byte))) h
 
   -- a fault
+  pub by_fault : {fault : Notice} → taken at ≡ no_value fault → reads_by (needs reason allowed then) taken at ≡ stopped fault
+  unfolding reads_by by_taken
+  by_fault there = ap by_taken there
+
+-- ---- the same of a file, by what number reading finds there
+module _ {A : Type 0} (file : List ℕ) (reason : Reason) (allowed : ℕ → Bool) (then : ℕ → Reader A) (at : Spot) where
+  module _ (v : ℕ) (next : Spot) (there : ValueThere file at v next) where
+    pub spot_passed : allowed v ≡ true → reads_from (needs reason allowed then) file at ≡ reads_from (then v) file next
+    spot_passed = by_passed (taking_at file) reason allowed then at (value_taken there)
+
+    pub spot_wrong : allowed v ≡ false → reads_from (needs reason allowed then) file at ≡ stopped (notice (number_of reason) at.place at.byte)
+    spot_wrong = by_wrong (taking_at file) reason allowed then at (value_taken there)
+
   pub spot_fault : (k : ℕ) → read_at file at.byte ≡ one_fault k → reads_from (needs reason allowed then) file at ≡ stopped (notice k at.place (offset_at file at.byte))
-  unfolding reads_from by_taken
-  spot_fault k e = ap (λ (found : Found). by_taken (taking at (offset_at file at.byte) found)) e
+  spot_fault k e = by_fault (taking_at file) reason allowed then at (ap (taking at (offset_at file at.byte)) e)
 
   pub spot_faulty : (refusal : Refusal) → FaultThere file at refusal → reads_from (needs reason allowed then) file at ≡ stopped_by refusal
-  spot_faulty refusal there =
-      spot_fault (number_of refusal.reason) there.stands ∙ ap stopped (sym there.told)
+  spot_faulty refusal there = spot_fault (number_of refusal.reason) there.stands ∙ ap stopped (sym there.told)
 
 -- ---- one reader after another
 -- what the first gives decides: from there the second goes on, or it is stopped
@@ -54,37 +63,37 @@ reached (stopped notice) then = stopped notice
 
 -- so goes the reading of one after another
 pub one_then_other :
-    {A B : Type 0} (first : Reader A) (then : A → Reader B) (file : List ℕ) (at : Spot) →
-    reads_from (first >>= then) file at ≡ reached (reads_from first file at) (λ what next. reads_from (then what) file next)
-unfolding reads_from
-one_then_other (return what) then file at = refl
-one_then_other (needs reason allowed more) then file at = by_take (taking_at file at) (λ v next. one_then_other (more v) then file next)
+    {A B : Type 0} (first : Reader A) (then : A → Reader B) (taken : Spot → Take) (at : Spot) →
+    reads_by (first >>= then) taken at ≡ reached (reads_by first taken at) (λ what next. reads_by (then what) taken next)
+unfolding reads_by
+one_then_other (return what) then taken at = refl
+one_then_other (needs reason allowed more) then taken at = by_take (taken at) (λ v next. one_then_other (more v) then taken next)
   where
     by_test :
-        (v : ℕ) (next : Spot) (t : Bool) → reads_from (more v >>= then) file next ≡ reached (reads_from (more v) file next) (λ what to. reads_from (then what) file to) →
-        cond t (reads_from (more v >>= then) file next) (stopped (notice (number_of reason) at.place at.byte))
-        ≡ reached (cond t (reads_from (more v) file next) (stopped (notice (number_of reason) at.place at.byte))) (λ what to. reads_from (then what) file to)
+        (v : ℕ) (next : Spot) (t : Bool) → reads_by (more v >>= then) taken next ≡ reached (reads_by (more v) taken next) (λ what to. reads_by (then what) taken to) →
+        cond t (reads_by (more v >>= then) taken next) (stopped (notice (number_of reason) at.place at.byte))
+        ≡ reached (cond t (reads_by (more v) taken next) (stopped (notice (number_of reason) at.place at.byte))) (λ what to. reads_by (then what) taken to)
     by_test v next true e = e
     by_test v next false e = refl
 
     by_take :
-        (taken : Take) →
-        ((v : ℕ) (next : Spot) → reads_from (more v >>= then) file next ≡ reached (reads_from (more v) file next) (λ what to. reads_from (then what) file to)) →
-        going_on taken (λ (v : ℕ) (next : Spot). cond (allowed v) (reads_from (more v >>= then) file next) (stopped (notice (number_of reason) at.place at.byte)))
+        (found : Take) →
+        ((v : ℕ) (next : Spot) → reads_by (more v >>= then) taken next ≡ reached (reads_by (more v) taken next) (λ what to. reads_by (then what) taken to)) →
+        going_on found (λ (v : ℕ) (next : Spot). cond (allowed v) (reads_by (more v >>= then) taken next) (stopped (notice (number_of reason) at.place at.byte)))
         ≡ reached
-        (going_on taken (λ (v : ℕ) (next : Spot). cond (allowed v) (reads_from (more v) file next) (stopped (notice (number_of reason) at.place at.byte))))
-        (λ what to. reads_from (then what) file to)
+        (going_on found (λ (v : ℕ) (next : Spot). cond (allowed v) (reads_by (more v) taken next) (stopped (notice (number_of reason) at.place at.byte))))
+        (λ what to. reads_by (then what) taken to)
     by_take (value v next) again = by_test v next (allowed v) (again v next)
     by_take (no_value notice) again = refl
 
-module _ {A B : Type 0} (first : Reader A) (then : A → Reader B) (file : List ℕ) (at : Spot) where
+module _ {A B : Type 0} (first : Reader A) (then : A → Reader B) (taken : Spot → Take) (at : Spot) where
   -- the first is read: the second goes on from there
-  pub after_whole : (what : A) (next : Spot) → reads_from first file at ≡ whole what next → reads_from (first >>= then) file at ≡ reads_from (then what) file next
-  after_whole what next e = one_then_other first then file at ∙ ap (λ (outcome : Reach A). reached outcome (λ x to. reads_from (then x) file to)) e
+  pub after_whole : (what : A) (next : Spot) → reads_by first taken at ≡ whole what next → reads_by (first >>= then) taken at ≡ reads_by (then what) taken next
+  after_whole what next e = one_then_other first then taken at ∙ ap (λ (outcome : Reach A). reached outcome (λ x to. reads_by (then x) taken to)) e
 
   -- the first is stopped, and so are both
-  pub after_stopped : (notice : Notice) → reads_from first file at ≡ stopped notice → reads_from (first >>= then) file at ≡ stopped notice
-  after_stopped notice e = one_then_other first then file at ∙ ap (λ (outcome : Reach A). reached outcome (λ x to. reads_from (then x) file to)) e
+  pub after_stopped : (notice : Notice) → reads_by first taken at ≡ stopped notice → reads_by (first >>= then) taken at ≡ stopped notice
+  after_stopped notice e = one_then_other first then taken at ∙ ap (λ (outcome : Reach A). reached outcome (λ x to. reads_by (then x) taken to)) e
 
 -- ---- as a reading by place and byte
 -- every number takes a byte: so no more numbers than bytes come before a spot, and its place is counted as it is
@@ -103,7 +112,7 @@ reads_at reader file at = reads reader file at.place at.byte
 pub reads_as :
     {A : Type 0} (file : List ℕ) → length file < 2 ^ 64 → (reader : Reader A) (at : Spot) → Counted file at →
     reads_at reader file at ≡ as_read (reads_from reader file at)
-unfolding reads reads_from
+unfolding reads reads_by
 reads_as file long (return what) at counted = refl
 reads_as file long (needs reason allowed then) at counted =
     by_number (read_at file at.byte) refl (λ v next there. reads_as file long (then v) next there)

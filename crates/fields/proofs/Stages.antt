@@ -4,7 +4,8 @@ use Rattle.fields.specs.declared.answer.Refusal.{Refusal}
 use Rattle.fields.specs.declared.spot.Spot.{Spot}
 use Rattle.fields.specs.Answers.{Notice}
 use Rattle.fields.specs.Readers.{Reader, return, ◌>>=◌, each}
-use Rattle.fields.specs.Reaching.{Reach, whole, stopped, reads_from, stopped_by}
+use Rattle.fields.specs.Spots.{Take}
+use Rattle.fields.specs.Reaching.{Reach, whole, stopped, reads_by, stopped_by}
 use Rattle.fields.proofs.Reaching.{reached, one_then_other, after_whole, after_stopped}
 
 module _ {A : Type 0} where
@@ -24,36 +25,36 @@ module _ {A : Type 0} where
   behind_none (stopped notice) = refl
 
   -- ---- the first of a count of records is read, and the others behind it; or it is refused
-  module _ (one : ℕ → Reader A) (own count : ℕ) (file : List ℕ) (at : Spot) where
+  module _ (one : ℕ → Reader A) (own count : ℕ) (taken : Spot → Take) (at : Spot) where
     abbrev others : A → Reader (List A)
     others what = each one (suc own) count >>= λ (rest : List A). return (what ∷ rest)
 
     each_read :
-        (what : A) (next : Spot) → reads_from (one own) file at ≡ whole what next →
-        reads_from (each one own (suc count)) file at ≡ behind (what ∷ []) (reads_from (each one (suc own) count) file next)
-    unfolding each reads_from
+        (what : A) (next : Spot) → reads_by (one own) taken at ≡ whole what next →
+        reads_by (each one own (suc count)) taken at ≡ behind (what ∷ []) (reads_by (each one (suc own) count) taken next)
+    unfolding each reads_by
     each_read what next e =
-        after_whole (one own) others file at what next e
-        ∙ one_then_other (each one (suc own) count) (λ (rest : List A). return (what ∷ rest)) file next
-        ∙ in_front (reads_from (each one (suc own) count) file next)
+        after_whole (one own) others taken at what next e
+        ∙ one_then_other (each one (suc own) count) (λ (rest : List A). return (what ∷ rest)) taken next
+        ∙ in_front (reads_by (each one (suc own) count) taken next)
       where
         in_front :
             (outcome : Reach (List A)) →
-            reached outcome (λ records to. reads_from (return (what ∷ records)) file to) ≡ behind (what ∷ []) outcome
+            reached outcome (λ records to. reads_by (return (what ∷ records)) taken to) ≡ behind (what ∷ []) outcome
         in_front (whole records to) = refl
         in_front (stopped notice) = refl
 
     each_refused :
-        (notice : Notice) → reads_from (one own) file at ≡ stopped notice → reads_from (each one own (suc count)) file at ≡ stopped notice
+        (notice : Notice) → reads_by (one own) taken at ≡ stopped notice → reads_by (each one own (suc count)) taken at ≡ stopped notice
     unfolding each
-    each_refused notice e = after_stopped (one own) others file at notice e
+    each_refused notice e = after_stopped (one own) others taken at notice e
 
   -- ---- so far p of the records are read, and the next one starts at a spot
-  module _ (one : ℕ → Reader A) (file : List ℕ) (start : Spot) (count : ℕ) where
+  module _ (one : ℕ → Reader A) (taken : Spot → Take) (start : Spot) (count : ℕ) where
     pub record Passed (done : List A) (at : Spot) (p : ℕ) : Type 0 where
       pub counted : length done ≡ p
       pub within : p ≤ count
-      pub comes_to : reads_from (each one 1 count) file start ≡ behind done (reads_from (each one (suc p) (count - p)) file at)
+      pub comes_to : reads_by (each one 1 count) taken start ≡ behind done (reads_by (each one (suc p) (count - p)) taken at)
 
     -- before the first turn none is read
     pub none_passed : Passed [] start 0
@@ -62,22 +63,22 @@ module _ {A : Type 0} where
         record {
           counted = refl;
           within = omega arith;
-          comes_to = sym (behind_none (reads_from (each one 1 (count - 0)) file start) ∙ ap (λ (n : ℕ). reads_from (each one 1 n) file start) rest);
+          comes_to = sym (behind_none (reads_by (each one 1 (count - 0)) taken start) ∙ ap (λ (n : ℕ). reads_by (each one 1 n) taken start) rest);
         }
 
   module _
-      {one : ℕ → Reader A} {file : List ℕ} {start : Spot} {count : ℕ} {done : List A} {at : Spot} {p : ℕ}
-      (so_far : Passed one file start count done at p) where
+      {one : ℕ → Reader A} {taken : Spot → Take} {start : Spot} {count : ℕ} {done : List A} {at : Spot} {p : ℕ}
+      (so_far : Passed one taken start count done at p) where
     -- a record is left to read: the outcome of all depends on it
-    one_left : p < count → reads_from (each one 1 count) file start ≡ behind done (reads_from (each one (suc p) (suc (count - (p + 1)))) file at)
+    one_left : p < count → reads_by (each one 1 count) taken start ≡ behind done (reads_by (each one (suc p) (suc (count - (p + 1)))) taken at)
     one_left more =
         let rest : count - p ≡ suc (count - (p + 1)) = omega arith in
-        so_far.comes_to ∙ ap (λ (n : ℕ). behind done (reads_from (each one (suc p) n) file at)) rest
+        so_far.comes_to ∙ ap (λ (n : ℕ). behind done (reads_by (each one (suc p) n) taken at)) rest
 
     -- it is read
     pub one_passed :
-        p < count → (what : A) (next : Spot) → reads_from (one (suc p)) file at ≡ whole what next →
-        Passed one file start count (done ++ (what ∷ [])) next (p + 1)
+        p < count → (what : A) (next : Spot) → reads_by (one (suc p)) taken at ≡ whole what next →
+        Passed one taken start count (done ++ (what ∷ [])) next (p + 1)
     one_passed more what next e =
         let again : suc (suc p) ≡ suc (p + 1) = omega arith in
         record {
@@ -85,22 +86,22 @@ module _ {A : Type 0} where
           within = omega arith;
           comes_to =
               one_left more
-              ∙ ap (behind done) (each_read one (suc p) (count - (p + 1)) file at what next e)
-              ∙ behind_behind done (what ∷ []) (reads_from (each one (suc (suc p)) (count - (p + 1))) file next)
-              ∙ ap (λ (n : ℕ). behind (done ++ (what ∷ [])) (reads_from (each one n (count - (p + 1))) file next)) again;
+              ∙ ap (behind done) (each_read one (suc p) (count - (p + 1)) taken at what next e)
+              ∙ behind_behind done (what ∷ []) (reads_by (each one (suc (suc p)) (count - (p + 1))) taken next)
+              ∙ ap (λ (n : ℕ). behind (done ++ (what ∷ [])) (reads_by (each one n (count - (p + 1))) taken next)) again;
         }
 
     -- it is refused, and so are all
     pub one_refused :
-        p < count → (refusal : Refusal) → reads_from (one (suc p)) file at ≡ stopped_by refusal → reads_from (each one 1 count) file start ≡ stopped_by refusal
+        p < count → (refusal : Refusal) → reads_by (one (suc p)) taken at ≡ stopped_by refusal → reads_by (each one 1 count) taken start ≡ stopped_by refusal
     one_refused more refusal e =
-        one_left more ∙ ap (behind done) (each_refused one (suc p) (count - (p + 1)) file at _ e)
+        one_left more ∙ ap (behind done) (each_refused one (suc p) (count - (p + 1)) taken at _ e)
 
     -- none is left: all are read
-    pub none_left : count ≤ p → reads_from (each one 1 count) file start ≡ whole done at
-    unfolding each reads_from
+    pub none_left : count ≤ p → reads_by (each one 1 count) taken start ≡ whole done at
+    unfolding each reads_by
     none_left all =
         let none : count - p ≡ 0 = omega arith in
         so_far.comes_to
-        ∙ ap (λ (n : ℕ). behind done (reads_from (each one (suc p) n) file at)) none
+        ∙ ap (λ (n : ℕ). behind done (reads_by (each one (suc p) n) taken at)) none
         ∙ ap (λ (l : List A). whole l at) (append-nil done)

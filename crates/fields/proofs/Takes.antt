@@ -1,16 +1,16 @@
 -- What the code's `take` says of the file.
-use Rattle.std.proofs.Common.{◌≡◌, ℕ, suc, ◌+◌, ◌^◌, ◌<◌, List, sym, refl, ap, ◌∙◌, true≢false, mod-eq_of_lt, add-one}
+use Rattle.std.proofs.Common.{◌≤◌, arith, Ok, Err, ◌≡◌, ℕ, suc, ◌+◌, ◌^◌, ◌<◌, List, sym, refl, ap, ◌∙◌, true≢false, mod-eq_of_lt, add-one}
+use Rattle.number.specs.Groups.{largest}
+use Rattle.number.proofs.Laws.{bounds}
 use Rattle.number.specs.Reading.{Found, read_at, offset_at}
 use Rattle.number.specs.Reading.Found.{number, fault}
 use Rattle.number.specs.declared.Report.{Report}
 use Rattle.number.specs.Finding.{finds, ReadAtPromise}
 use Rattle.fields.specs.declared.answer.Refusal.{Refusal}
 use Rattle.fields.specs.declared.spot.Spot.{Spot}
-use Rattle.fields.specs.declared.taking.Taken.{Taken}
-use Rattle.fields.specs.declared.taking.Taken.TheVariants.{Value, Refused}
 use Rattle.fields.specs.Reasons.{number_of}
 use Rattle.fields.specs.Answers.{Notice, notice, notice_of}
-use Rattle.fields.specs.Spots.{place_after, taking, taking_at, took}
+use Rattle.fields.specs.Spots.{Take, Taken, place_after, taking, taking_at, took}
 use Rattle.fields.specs.Spots.Take.{value, refusal as no_value}
 
 -- the place after another is one more, if a machine can count it
@@ -27,19 +27,35 @@ module _ (file : List ℕ) (at : Spot) (report : Report) (told : ReadAtPromise f
   taken_fault k is =
       ap (λ (offset : ℕ). no_value (notice k at.place offset)) told.offset ∙ ap (taking at (offset_at file at.byte)) (sym is ∙ told.number)
 
+-- what the code says that it took is what is taken
+pub taken_is : {taken : Take} {r : Taken} (s : Taken) → took r ≡ taken → r ≡ s → taken ≡ took s
+taken_is s e is = sym e ∙ ap took is
+
 -- a value that was taken is there, and the next spot is behind it
 pub record ValueThere (file : List ℕ) (at : Spot) (v : ℕ) (next : Spot) : Type 0 where
   pub stands : read_at file at.byte ≡ number v next.byte
   pub place_on : next.place ≡ place_after at.place
 
-pub value_there : (file : List ℕ) (at : Spot) (taken : Taken) (v : ℕ) (next : Spot) → took taken ≡ taking_at file at → taken ≡ Value v next → ValueThere file at v next
+pub value_taken : {file : List ℕ} {at : Spot} {v : ℕ} {next : Spot} → ValueThere file at v next → taking_at file at ≡ value v next
+value_taken {file = file} {at = at} {v = v} {next = next} there =
+    ap (taking at (offset_at file at.byte)) there.stands ∙ ap (λ (p : ℕ). value v (record { byte = next.byte; place = p })) (sym there.place_on)
+
+pub value_there : (file : List ℕ) (at : Spot) (taken : Taken) (v : ℕ) (next : Spot) → took taken ≡ taking_at file at → taken ≡ Ok (v, next) → ValueThere file at v next
 value_there file at taken v next e is = by_number (read_at file at.byte) refl (sym (ap took is) ∙ e)
   where
-    by_number : (found : Found) → read_at file at.byte ≡ found → took (Value v next) ≡ taking at (offset_at file at.byte) found → ValueThere file at v next
+    by_number : (found : Found) → read_at file at.byte ≡ found → took (Ok (v, next)) ≡ taking at (offset_at file at.byte) found → ValueThere file at v next
     by_number (number w n) here same =
         let value_is : v ≡ w = cc in
         let next_is : next ≡ record { byte = n; place = place_after at.place } = cc in
         record { stands = here ∙ rw (value_is, next_is) refl; place_on = ap (λ (s : Spot). s.place) next_is }
+    by_number (fault k) here same = absurd (true≢false (cc))
+
+-- no number that is taken is over the limit
+pub within_limit : (file : List ℕ) (at : Spot) (v : ℕ) (next : Spot) → taking_at file at ≡ value v next → v ≤ largest
+within_limit file at v next e = by_number (read_at file at.byte) refl e
+  where
+    by_number : (found : Found) → read_at file at.byte ≡ found → taking at (offset_at file at.byte) found ≡ value v next → v ≤ largest
+    by_number (number w n) here same = let is : w ≡ v = cc in omega (arith, (bounds file at.byte w n here).small, is)
     by_number (fault k) here same = absurd (true≢false (cc))
 
 -- a refusal is the fault that is there, and tells its place and its offset
@@ -47,10 +63,10 @@ pub record FaultThere (file : List ℕ) (at : Spot) (refusal : Refusal) : Type 0
   pub stands : read_at file at.byte ≡ fault (number_of refusal.reason)
   pub told : notice_of refusal ≡ notice (number_of refusal.reason) at.place (offset_at file at.byte)
 
-pub fault_there : (file : List ℕ) (at : Spot) (taken : Taken) (refusal : Refusal) → took taken ≡ taking_at file at → taken ≡ Refused refusal → FaultThere file at refusal
+pub fault_there : (file : List ℕ) (at : Spot) (taken : Taken) (refusal : Refusal) → took taken ≡ taking_at file at → taken ≡ Err refusal → FaultThere file at refusal
 fault_there file at taken refusal e is = by_number (read_at file at.byte) refl (sym (ap took is) ∙ e)
   where
-    by_number : (found : Found) → read_at file at.byte ≡ found → took (Refused refusal) ≡ taking at (offset_at file at.byte) found → FaultThere file at refusal
+    by_number : (found : Found) → read_at file at.byte ≡ found → took (Err refusal) ≡ taking at (offset_at file at.byte) found → FaultThere file at refusal
     by_number (number w n) here same = absurd (true≢false (cc))
     by_number (fault k) here same =
         let told : notice_of refusal ≡ notice k at.place (offset_at file at.byte) = cc in

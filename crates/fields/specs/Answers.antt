@@ -1,7 +1,5 @@
 -- What an answer of the code says: accepted, or the number, place and offset of a refusal.
-use Rattle.std.specs.Prelude.{◌≡◌, ℕ}
-use Rattle.fields.specs.declared.answer.Answer.{Answer}
-use Rattle.fields.specs.declared.answer.Answer.TheVariants.{Accepted, Refused}
+use Rattle.std.specs.Prelude.{◌≡◌, ℕ, Result, Ok, Err}
 use Rattle.fields.specs.declared.answer.Refusal.{Refusal}
 use Rattle.fields.specs.declared.reason.Reason.{Reason}
 use Rattle.fields.specs.Reasons.{number_of}
@@ -20,9 +18,16 @@ pub data Verdict : Type 0 where
   accepts : Verdict
   refuses : Notice → Verdict
 
+-- An answer of the code: accepted, or a refusal.
+abbrev pub Answer : Type 0
+Answer = Result Unit Refusal
+
+abbrev pub accepted : Answer
+accepted = Ok tt
+
 -- Refused for a reason, at a place and an offset.
 abbrev pub refused_for : Reason → (place offset : ℕ) → Answer
-refused_for reason place offset = Refused (record { reason = reason; place = place; offset = offset })
+refused_for reason place offset = Err (record { reason = reason; place = place; offset = offset })
 
 -- The notice of a refusal of the code.
 abbrev pub notice_of : Refusal → Notice
@@ -34,8 +39,8 @@ refusing refusal = refuses (notice_of refusal)
 
 -- What an answer says.
 abbrev pub said : Answer → Verdict
-said Accepted = accepts
-said (Refused refusal) = refusing refusal
+said (Ok done) = accepts
+said (Err refusal) = refusing refusal
 
 -- The number of refusal, and 0 for an accepted file (rule 8.1).
 abbrev pub refusal_number : Verdict → ℕ
@@ -53,18 +58,18 @@ refusal_offset accepts = 0
 refusal_offset (refuses notice) = notice.offset
 
 -- ---- what the public functions promise
--- `Answer::refused`: refused for that reason, at that place and offset (rule 8.1).
+-- `refused`: refused for that reason, at that place and offset (rule 8.1).
 abbrev pub RefusedPromise : Reason → (place offset : ℕ) → Answer → Type 0
 RefusedPromise reason place offset r = r ≡ refused_for reason place offset
 
--- `Answer::refusal`: the number of refusal, or 0 (rule 8.1).
+-- `refusal_number`: the number of refusal, or 0 (rule 8.1).
 abbrev pub AnswerRefusalPromise : Answer → ℕ → Type 0
 AnswerRefusalPromise answer r = r ≡ refusal_number (said answer)
 
--- `Answer::place`: the place, or 0 (rule 8.2).
+-- `refusal_place`: the place, or 0 (rule 8.2).
 abbrev pub AnswerPlacePromise : Answer → ℕ → Type 0
 AnswerPlacePromise answer r = r ≡ refusal_place (said answer)
 
--- `Answer::offset`: the offset, or 0 (rule 8.9).
+-- `refusal_offset`: the offset, or 0 (rule 8.9).
 abbrev pub AnswerOffsetPromise : Answer → ℕ → Type 0
 AnswerOffsetPromise answer r = r ≡ refusal_offset (said answer)

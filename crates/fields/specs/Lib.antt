@@ -6,6 +6,7 @@ pub mod Answers
 -- the file: its numbers, read from its front, field by field
 pub mod Ranges
 pub mod Readers
+pub mod Wanting
 pub mod Files
 -- its tests, each at its place and offset
 pub mod Tests

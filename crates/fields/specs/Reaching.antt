@@ -1,4 +1,4 @@
--- What a reader gives from a spot on, by what is taken at each spot: said for every spot of every file.
+-- What a reader gives from a spot on, by what is taken at each spot: of a file, or of what stands for one.
 use Rattle.std.specs.Prelude.{ℕ, cond, List}
 use Rattle.fields.specs.declared.answer.Refusal.{Refusal}
 use Rattle.fields.specs.declared.spot.Spot.{Spot}
@@ -18,12 +18,16 @@ abbrev pub going_on : {A : Type 0} → Take → (ℕ → Spot → Reach A) → R
 going_on (value v next) then = then v next
 going_on (no_value notice) then = stopped notice
 
--- A reader put to a file from a spot on: a number's fault, then its field, then the next (rules 8.2, 8.3 and 8.9). Places wrap at 64 bits.
-unfoldable pub reads_from : {A : Type 0} → Reader A → List ℕ → Spot → Reach A
-reads_from (return what) file at = whole what at
-reads_from (needs reason allowed then) file at =
-    going_on (taking_at file at) (λ (v : ℕ) (next : Spot).
-    cond (allowed v) (reads_from (then v) file next) (stopped (notice (number_of reason) at.place at.byte)))
+-- A reader from a spot on: a number's fault, then its field, then the next (rules 8.2, 8.3 and 8.9).
+unfoldable pub reads_by : {A : Type 0} → Reader A → (taken : Spot → Take) → Spot → Reach A
+reads_by (return what) taken at = whole what at
+reads_by (needs reason allowed then) taken at =
+    going_on (taken at) (λ (v : ℕ) (next : Spot).
+    cond (allowed v) (reads_by (then v) taken next) (stopped (notice (number_of reason) at.place at.byte)))
+
+-- A reader put to a file from a spot on. Places wrap at 64 bits.
+abbrev pub reads_from : {A : Type 0} → Reader A → List ℕ → Spot → Reach A
+reads_from reader file = reads_by reader (taking_at file)
 
 -- A refusal of the code, in these terms.
 abbrev pub stopped_by : {A : Type 0} → Refusal → Reach A

@@ -1,5 +1,7 @@
 -- The reasons to refuse, by their numbers.
 use Rattle.std.specs.Prelude.{◌≡◌, ℕ}
+use Rattle.number.specs.declared.Fault.{Fault}
+use Rattle.number.specs.declared.Fault.TheVariants as faults
 use Rattle.number.specs.Reading.{ends, not_shortest, too_large}
 use Rattle.fields.specs.declared.reason.Reason.{Reason}
 use Rattle.fields.specs.declared.reason.Reason.TheVariants.{Ends, NotShortest, TooLarge, WrongEdition, WrongCount, WrongPlant, WrongSegment, WrongLine, BytesAfter, TooManyGrams, InflowTooLarge, OutflowOverInflow, EmissionWithoutInflow, PlantTableShort, SegmentTableShort, CapturedOverFuel}
@@ -26,3 +28,9 @@ number_of CapturedOverFuel = 16
 -- What `Reason::number` promises: that number (rule 8.1).
 abbrev pub ReasonNumberPromise : Reason → ℕ → Type 0
 ReasonNumberPromise reason r = r ≡ number_of reason
+
+-- The reason to refuse a file in which a number has a fault.
+abbrev pub fault_reason : Fault → Reason
+fault_reason faults.Ends = Ends
+fault_reason faults.NotShortest = NotShortest
+fault_reason faults.TooLarge = TooLarge

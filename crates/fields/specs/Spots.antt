@@ -1,15 +1,13 @@
 -- Spots of a file: the byte where a number starts and its place, as one value; and what is taken at one.
-use Rattle.std.specs.Prelude.{◌≡◌, ℕ, ◌+◌, ◌%◌, ◌^◌, cond, List, length, nat_lt}
+use Rattle.std.specs.Prelude.{◌≡◌, ℕ, ◌+◌, ◌%◌, ◌^◌, cond, List, length, nat_lt, Result, Ok, Err}
 use Rattle.number.specs.Reading.{Found, read_at, offset_at}
 use Rattle.number.specs.Reading.Found.{number, fault}
-use Rattle.fields.specs.declared.answer.Answer.{Answer}
 use Rattle.fields.specs.declared.answer.Refusal.{Refusal}
 use Rattle.fields.specs.declared.reason.Reason.{Reason}
 use Rattle.fields.specs.declared.reason.Reason.TheVariants.{BytesAfter}
 use Rattle.fields.specs.declared.spot.Spot.{Spot}
-use Rattle.fields.specs.declared.taking.Taken.{Taken}
 use Rattle.fields.specs.Reasons.{number_of}
-use Rattle.fields.specs.Answers.{Notice, notice, notice_of, Verdict, accepts, refuses, said}
+use Rattle.fields.specs.Answers.{Answer, Notice, notice, notice_of, Verdict, accepts, refuses, said}
 
 -- The spot of the first number (rule 2.1).
 abbrev pub first_spot : Spot
@@ -37,10 +35,14 @@ taking at offset (fault k) = refusal (notice k at.place offset)
 abbrev pub taking_at : List ℕ → Spot → Take
 taking_at file at = taking at (offset_at file at.byte) (read_at file at.byte)
 
+-- What the code takes: a value, with the spot of the next number; or a refusal.
+abbrev pub Taken : Type 0
+Taken = Result (ℕ × Spot) Refusal
+
 -- What the code says that it took.
 abbrev pub took : Taken → Take
-took (Taken.Value v next) = value v next
-took (Taken.Refused r) = refusal (notice_of r)
+took (Ok (v, next)) = value v next
+took (Err r) = refusal (notice_of r)
 
 -- Behind the last number: bytes that follow are refused, with the count of numbers as place and the first of them as offset (rules 8.4 and 8.9).
 abbrev pub end_at : List ℕ → Spot → Verdict

@@ -11,54 +11,49 @@ pub struct Refusal {
     pub offset: u64,
 }
 
-#[derive(Clone, Copy)]
-pub enum Answer {
-    Accepted,
-    Refused(Refusal),
+// Accepted, or why not (rule 8.1).
+pub type Answer = Result<(), Refusal>;
+
+// Refused for a reason, at a place and an offset (rule 8.1).
+pub fn refused(reason: Reason, place: u64, offset: u64) -> Answer
+    ensures { RefusedPromise reason place offset result }
+{
+    Err(Refusal {
+        reason,
+        place,
+        offset,
+    })
 }
 
-impl Answer {
-    // Refused for a reason, at a place and an offset (rule 8.1).
-    pub fn refused(reason: Reason, place: u64, offset: u64) -> Answer
-        ensures { RefusedPromise reason place offset result }
-    {
-        Answer::Refused(Refusal {
-            reason,
-            place,
-            offset,
-        })
-    }
-
-    // The number of refusal, and 0 for an accepted file (rule 8.1).
-    pub fn refusal(self) -> u32
-        ensures { AnswerRefusalPromise self result }
-    {
-        match self {
-            Answer::Accepted => 0,
-            Answer::Refused(refusal) => {
-                let reason = refusal.reason;
-                reason.number()
-            }
+// The number of refusal, and 0 for an accepted file (rule 8.1).
+pub fn refusal_number(answer: Answer) -> u32
+    ensures { AnswerRefusalPromise answer result }
+{
+    match answer {
+        Ok(()) => 0,
+        Err(refusal) => {
+            let reason = refusal.reason;
+            reason.number()
         }
     }
+}
 
-    // The place of the refusal, and 0 for an accepted file (rule 8.2).
-    pub fn place(self) -> u64
-        ensures { AnswerPlacePromise self result }
-    {
-        match self {
-            Answer::Accepted => 0,
-            Answer::Refused(refusal) => refusal.place,
-        }
+// The place of the refusal, and 0 for an accepted file (rule 8.2).
+pub fn refusal_place(answer: Answer) -> u64
+    ensures { AnswerPlacePromise answer result }
+{
+    match answer {
+        Ok(()) => 0,
+        Err(refusal) => refusal.place,
     }
+}
 
-    // The offset of the refusal, and 0 for an accepted file (rule 8.9).
-    pub fn offset(self) -> u64
-        ensures { AnswerOffsetPromise self result }
-    {
-        match self {
-            Answer::Accepted => 0,
-            Answer::Refused(refusal) => refusal.offset,
-        }
+// The offset of the refusal, and 0 for an accepted file (rule 8.9).
+pub fn refusal_offset(answer: Answer) -> u64
+    ensures { AnswerOffsetPromise answer result }
+{
+    match answer {
+        Ok(()) => 0,
+        Err(refusal) => refusal.offset,
     }
 }

@@ -9,7 +9,7 @@ pub mod reason;
 pub mod spot;
 pub mod taking;
 
-pub use crate::answer::{Answer, Refusal};
+pub use crate::answer::{Answer, Refusal, refusal_number, refusal_offset, refusal_place, refused};
 pub use crate::reason::Reason;
 pub use crate::spot::Spot;
-pub use crate::taking::{Taken, nothing_after, take};
+pub use crate::taking::{nothing_after, take};

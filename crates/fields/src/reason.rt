@@ -1,5 +1,8 @@
 // The reasons to refuse: one enum for all files and calls, since each number has one meaning (rule 8.1).
-ghost use Rattle.fields.specs.Reasons.{ReasonNumberPromise};
+ghost use Rattle.std.specs.Prelude.{◌≡◌};
+ghost use Rattle.fields.specs.Reasons.{ReasonNumberPromise, fault_reason};
+
+use number::Fault;
 
 // In the order of their numbers. Files of every kind can have 1, 2, 3, 5 and 9.
 #[derive(Clone, Copy)]
@@ -61,6 +64,19 @@ impl Reason {
             Reason::PlantTableShort => 14,
             Reason::SegmentTableShort => 15,
             Reason::CapturedOverFuel => 16,
+        }
+    }
+}
+
+// The reason to refuse a file in which a number has this fault (rule 8.1).
+impl From<Fault> for Reason {
+    ghost from_gives = { λ fault r. r ≡ fault_reason fault };
+
+    fn from(fault: Fault) -> Reason {
+        match fault {
+            Fault::Ends => Reason::Ends,
+            Fault::NotShortest => Reason::NotShortest,
+            Fault::TooLarge => Reason::TooLarge,
         }
     }
 }

@@ -4,17 +4,11 @@ ghost use Rattle.fields.specs.Spots.{NothingAfterPromise, TakePromise};
 use crate::answer::{Answer, Refusal};
 use crate::reason::Reason;
 use crate::spot::Spot;
-use number::{Number, read_at};
+use number::read_at;
 
-// What is taken at a spot: a value, with the spot of the next number; or the number's fault.
-#[derive(Clone, Copy)]
-pub enum Taken {
-    Value(u64, Spot),
-    Refused(Refusal),
-}
-
-// Takes the number at a spot, or its fault (rules 2.1, 8.2, 8.3 and 8.9). Any spot may be given; places wrap at 64 bits, which no file reaches.
-pub fn take(file: &[u8], at: Spot) -> Taken
+// Takes the number at a spot, with the spot of the next one; or its fault (rules 2.1, 8.2, 8.3 and 8.9). Any spot may be given; places wrap at 64
+// bits, which no file reaches.
+pub fn take(file: &[u8], at: Spot) -> Result<(u64, Spot), Refusal>
     ensures { TakePromise file.now at result }
 {
     let report = read_at(file, at.byte);
@@ -23,16 +17,14 @@ pub fn take(file: &[u8], at: Spot) -> Taken
         byte: report.offset,
         place: at.place,
     };
-    let number = report.number;
-    match number {
-        Number::Value { value, next } => {
-            let place = std::num::wrapping_add_u64(at.place, 1);
-            Taken::Value(value, Spot { byte: next, place })
-        }
-        Number::Ends => Taken::Refused(here.refusal(Reason::Ends)),
-        Number::NotShortest => Taken::Refused(here.refusal(Reason::NotShortest)),
-        Number::TooLarge => Taken::Refused(here.refusal(Reason::TooLarge)),
-    }
+    let number = report
+        .number
+        .map_err(|fault| here.refusal(Reason::from(fault)))?;
+    let next = Spot {
+        byte: number.next,
+        place: at.place.wrapping_add(1),
+    };
+    Ok((number.value, next))
 }
 
 // Whether a file ends at a spot, behind its last number: bytes that follow are refused (rules 8.4 and 8.9).
@@ -40,7 +32,7 @@ pub fn nothing_after(file: &[u8], at: Spot) -> Answer
     ensures { NothingAfterPromise file.now at result }
 {
     if at.byte < file.len() {
-        return Answer::Refused(at.refusal(Reason::BytesAfter));
+        return Err(at.refusal(Reason::BytesAfter));
     }
-    Answer::Accepted
+    Ok(())
 }

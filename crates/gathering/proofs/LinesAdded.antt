@@ -1,20 +1,19 @@
 -- The loop that adds up the lines as they are read, with one law for its start and each way through a turn.
 use Prim.Native.Nat.{ℕ, suc, ◌+◌, ◌<◌}
 use mathlib.Core.Path.{◌≡◌, refl, sym, ap, ◌∙◌}
-use mathlib.Core.Bool.{Bool, true, false, cond, and-false}
+use mathlib.Core.Bool.{Bool, true, false, cond}
 use mathlib.Core.List.{List, [], ◌∷◌, ◌++◌}
-use native.Mathlib.Decide.{ℕ_discrete}
 use native.Mathlib.Numerals.{add-one}
 use native.Mathlib.Omega.{arith}
-use lib.Dec.{ltb, eqb}
+use lib.Dec.{ltb}
 use lib.ListN.{length, take, drop, get_or, length-append}
 use lib.Seq.{take-suc, take-append_seam, drop-cons, get_or_at, append_snoc}
-use borrow.Author.Tests.{eq-eqb, ne_eqb}
+use Rattle.std.proofs.Common.{Option, Some, None}
 use Rattle.fields.specs.declared.reason.Reason.TheVariants.{TooManyGrams}
 use Rattle.fields.specs.declared.spot.Spot.{Spot}
 use Rattle.fields.specs.Reasons.{number_of}
 use Rattle.fields.specs.Answers.{notice, Verdict, accepts, refuses}
-use Rattle.fields.specs.Spots.{first_spot}
+use Rattle.fields.specs.Spots.{taking_at}
 use Rattle.fields.specs.Reaching.{whole, reads_from}
 use Rattle.fields.specs.Tests.{tested_by}
 use Rattle.fields.proofs.Stages.{Passed, none_passed, one_passed}
@@ -26,7 +25,8 @@ use Rattle.records.specs.Places.{line_start}
 use Rattle.records.proofs.Starts.{next_line_starts}
 use Rattle.accounts.specs.Emissions.{added_grams}
 use Rattle.accounts.specs.Order.{line_tests}
-use Rattle.gathering.specs.OwnerTotals.{first_over, Owner, Columns, columns_of, columns_with, NoTotals, Sums}
+use Rattle.gathering.specs.declared.totals.Totals.{Totals}
+use Rattle.gathering.specs.OwnerTotals.{first_over, Owner, no_totals, totals_with, Sums}
 use Rattle.gathering.proofs.OwnerTotals.{sums_start, sums_on, capped_over}
 
 -- ---- what 10 says of some lines
@@ -57,40 +57,48 @@ module _ (file : List ℕ) (start : Spot) (counts : Counts) where
   abbrev pub starts : ℕ → ℕ
   starts index = line_start file counts index
 
-  pub record AddingUp (columns : Columns) (over at : Spot) (l : ℕ) : Type 0 where
+  -- what is known of the tests so far: all passed, or the first that fails refuses
+  abbrev Tested : Option Spot → List Line → ℕ → Type 0
+  Tested None done l = (later : List Line) → Passed-ten starts (done ++ later) l
+  Tested (Some first) done l =
+      (later : List Line) → ten_of starts (done ++ later) ≡ refuses (notice (number_of TooManyGrams) first.place first.byte)
+
+  pub record AddingUp (totals : Totals) (over : Option Spot) (at : Spot) (l : ℕ) : Type 0 where
     pub done : List Line
-    pub read_so_far : Passed (λ (own : ℕ). line counts) file start counts.lines done at l
+    pub read_so_far : Passed (λ (own : ℕ). line counts) (taking_at file) start counts.lines done at l
     pub stands : at.byte ≡ starts l
-    pub sums : Sums done columns
-    pub within_limit : over.place ≡ 0 → (later : List Line) → Passed-ten starts (done ++ later) l
-    pub past_limit : 0 < over.place → (later : List Line) → ten_of starts (done ++ later) ≡ refuses (notice (number_of TooManyGrams) over.place over.byte)
+    pub sums : Sums done totals
+    pub tested : Tested over done l
 
   -- no line is read
-  pub none_added_lem : (added fuel captured : List ℕ) → NoTotals added fuel captured → start.byte ≡ starts 0 → AddingUp (columns_of added fuel captured) first_spot start 0
-  none_added_lem added fuel captured none here = record {
+  pub none_added : start.byte ≡ starts 0 → AddingUp no_totals None start 0
+  none_added here = record {
     done = [];
-    read_so_far = none_passed (λ (own : ℕ). line counts) file start counts.lines;
+    read_so_far = none_passed (λ (own : ℕ). line counts) (taking_at file) start counts.lines;
     stands = here;
-    sums = sums_start added fuel captured none;
-    within_limit = λ none later. refl;
-    past_limit = λ some later. absurd (omega (arith, some));
+    sums = sums_start;
+    tested = λ later. refl;
   }
 
 module _
-    {file : List ℕ} {start : Spot} {counts : Counts} {before : Columns} {over at : Spot} {l : ℕ}
+    {file : List ℕ} {start : Spot} {counts : Counts} {before : Totals} {over : Option Spot} {at : Spot} {l : ℕ}
     (so_far : AddingUp file start counts before over at l)
     (more : l < counts.lines) (one : Line) (behind : Spot) (came : reads_from (line counts) file at ≡ whole one behind)
-    (place : ℕ) (owner : Owner one.owner_kind one.owner place) (columns : Columns) (with_line : columns ≡ columns_with before place one) where
+    (place : ℕ) (owner : Owner one.owner_kind one.owner place) where
+  -- with this line
+  abbrev with_line : Totals
+  with_line = totals_with before place one
+
   -- what is added of its owner's lines
   abbrev total : ℕ
-  total = get_or columns.added place 0
+  total = get_or with_line.added place 0
 
   -- the lines up to this one
   abbrev with_it : List Line
   with_it = so_far.done ++ (one ∷ [])
 
-  sums_with : Sums with_it columns
-  sums_with = rw with_line (sums_on so_far.sums one place owner)
+  sums_with : Sums with_it with_line
+  sums_with = sums_on so_far.sums one place owner
 
   -- what its owner's lines add up to is what the code compares with the limit
   compared : ltb most_grams total ≡ ltb most_grams (added_grams one.owner_kind one.owner with_it)
@@ -102,46 +110,31 @@ module _
   abbrev here : Spot
   here = record { byte = at.byte; place = l + 1 }
 
-  -- so it is tested, whatever lines follow
-  tested :
-      over.place ≡ 0 → (later : List Line) →
+  -- so it is tested after lines that all passed, whatever lines follow
+  next :
+      Tested file start counts None so_far.done l → (later : List Line) →
       ten_of (starts file start counts) (with_it ++ later)
       ≡ cond (ltb most_grams total) (refuses (notice (number_of TooManyGrams) (l + 1) at.byte))
       (tested_by refuses (line_tests (starts file start counts) (with_it ++ later) (l + 1) (drop (l + 1) (with_it ++ later))) accepts)
-  tested none later =
+  next passed later =
       rw (append_snoc so_far.done one later, compared, add-one l, so_far.stands)
-      (next_tested (starts file start counts) so_far.done one later l so_far.read_so_far.counted (so_far.within_limit none (one ∷ later)))
+      (next_tested (starts file start counts) so_far.done one later l so_far.read_so_far.counted (passed (one ∷ later)))
 
-  -- one more is added
-  pub one_added : AddingUp file start counts columns (first_over over total here) behind (l + 1)
-  one_added = by_over (ℕ_discrete over.place 0) (ltb most_grams total) refl
+  -- one more is added, and the next number is its own
+  pub one_added :
+      (own : ℕ) → own ≡ l + 1 → (totals : Totals) → totals ≡ with_line → (added : ℕ) → added ≡ get_or totals.added place 0 → (over' : Option Spot) →
+      over' ≡ first_over over added (record { byte = at.byte; place = own }) → AddingUp file start counts totals over' behind own
+  one_added own numbered totals with_one added its over' told = rw (numbered, told, its, with_one, numbered) (record {
+    done = with_it;
+    read_so_far = one_passed so_far.read_so_far more one behind came;
+    stands = next_line_starts file counts at behind l one so_far.stands came ∙ ap (λ (n : ℕ). line_start file counts n) (sym (add-one l));
+    sums = sums_with;
+    tested = by_over over so_far.tested (ltb most_grams total) refl;
+  })
     where
-      -- what holds whatever the limit
-      with_limit :
-          (over' : Spot) → first_over over total here ≡ over' →
-          (over'.place ≡ 0 → (later : List Line) → Passed-ten (starts file start counts) (with_it ++ later) (l + 1)) →
-          (0 < over'.place → (later : List Line) →
-          ten_of (starts file start counts) (with_it ++ later) ≡ refuses (notice (number_of TooManyGrams) over'.place over'.byte)) →
-          AddingUp file start counts columns (first_over over total here) behind (l + 1)
-      with_limit over' is within past = rw is (record {
-        done = with_it;
-        read_so_far = one_passed so_far.read_so_far more one behind came;
-        stands = next_line_starts file counts at behind l one so_far.stands came ∙ ap (λ (n : ℕ). line_start file counts n) (sym (add-one l));
-        sums = sums_with;
-        within_limit = within;
-        past_limit = past;
-      })
-
-      by_over : Dec (over.place ≡ 0) → (passes : Bool) → ltb most_grams total ≡ passes → AddingUp file start counts columns (first_over over total here) behind (l + 1)
-      by_over (yes none) false few =
-          with_limit over (rw (few, and-false (eqb over.place 0)) refl)
-          (λ is later. rw few at (tested none later))
-          (λ some. absurd (omega (arith, some, none)))
-      by_over (yes none) true many =
-          with_limit here (rw (many, eq-eqb over.place 0 none) refl)
-          (λ is. absurd (omega (arith, is)))
-          (λ some later. rw many at (tested none later))
-      by_over (no some) passes h =
-          with_limit over (rw (ne_eqb over.place 0 some) refl)
-          (λ is. absurd (some is))
-          (λ above later. rw (append_snoc so_far.done one later) (so_far.past_limit above (one ∷ later)))
+      by_over :
+          (over' : Option Spot) → Tested file start counts over' so_far.done l → (passes : Bool) → ltb most_grams total ≡ passes →
+          Tested file start counts (first_over over' total here) with_it (l + 1)
+      by_over None passed false few = rw few (λ later. rw few at (next passed later))
+      by_over None passed true many = rw many (λ later. rw many at (next passed later))
+      by_over (Some first) refused passes h = λ later. rw (append_snoc so_far.done one later) (refused (one ∷ later))

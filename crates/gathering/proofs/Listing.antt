@@ -1,16 +1,15 @@
 -- What is listed index by index: the loop that fills an array with it, and lists that have the same at every index.
 use Prim.Native.Nat.{ℕ, zero, suc, ◌+◌, ◌-◌, ◌≤◌, ◌<◌}
 use mathlib.Core.Path.{◌≡◌, refl, sym, ap, ap₂, ◌∙◌}
-use mathlib.Core.List.{List, [], ◌∷◌, ◌++◌, map, map-append}
+use mathlib.Core.List.{List, [], ◌∷◌, ◌++◌, map}
 use native.Mathlib.Decide.{dec_le}
 use native.Mathlib.Numerals.{add-one}
 use native.Mathlib.Omega.{arith}
-use lib.ListN.{length, take, get_or, set, replicate, length-append, length-replicate, length-map, get_or-eq_default, get_or-map}
+use lib.ListN.{length, take, get_or, set, replicate, length-append, length-replicate, get_or-eq_default}
 use lib.Seq.{set_at, append_snoc, ext_get_or, length-take-le, get_or-take}
 use Rattle.fields.specs.Lists.{filled}
 use Rattle.fields.specs.Tests.{listed}
 use Rattle.fields.proofs.Testing.{listed_length}
-use Rattle.gathering.specs.Gathered.{column_of}
 
 module _ {A : Type 0} where
   -- what stands at one index more comes last
@@ -130,28 +129,3 @@ listed_map f at from (suc count) = ap (λ (l : List _). f (at from) ∷ l) (list
 pub map_map : {A B C : Type 0} (f : A → B) (g : B → C) (l : List A) → map g (map f l) ≡ map (λ (x : A). g (f x)) l
 map_map f g [] = refl
 map_map f g (x ∷ l) = ap (λ (rest : List _). g (f x) ∷ rest) (map_map f g l)
-
--- ---- a column: a figure of each record
-module _ {A : Type 0} (figure : A → ℕ) (room : ℕ) where
-  abbrev pub Column : List A → List ℕ → Type 0
-  Column done array = array ≡ column_of room figure done
-
-  -- of no record
-  pub column_start : (array : List ℕ) → array ≡ replicate room 0 → Column [] array
-  unfolding filled
-  column_start array is = let all : room ≡ room - 0 = omega arith in is ∙ ap (λ (n : ℕ). replicate n 0) all
-
-  -- of one more
-  pub column_on : (done : List A) (array : List ℕ) (p : ℕ) (what : A) → Column done array → length done ≡ p → p < room → Column (done ++ (what ∷ [])) (set array p (figure what))
-  column_on done array p what column counted more =
-      ap (λ (l : List ℕ). set l p (figure what)) column
-      ∙ filled_on 0 room (map figure done) p (figure what) (length-map done figure ∙ counted) more
-      ∙ ap (filled 0 room) (sym (map-append figure done (what ∷ [])))
-
-  -- at an index
-  pub column_at : (done : List A) (array : List ℕ) (none : A) (i : ℕ) → figure none ≡ 0 → Column done array → get_or array i 0 ≡ figure (get_or done i none)
-  column_at done array none i empty column =
-      ap (λ (l : List ℕ). get_or l i 0) column
-      ∙ filled_at 0 room (map figure done) i
-      ∙ ap (get_or (map figure done) i) (sym empty)
-      ∙ get_or-map figure done i none

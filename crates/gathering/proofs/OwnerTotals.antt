@@ -1,14 +1,13 @@
 -- The owners' totals: before each line every owner's place has the grams of its lines so far, by how their classes count; one law for all three columns.
-use Prim.Native.Nat.{ℕ, suc, ◌+◌, ◌-◌, ◌≤◌, ◌<◌}
+use Prim.Native.Nat.{ℕ, ◌+◌, ◌≤◌, ◌<◌}
 use mathlib.Core.Path.{◌≡◌, refl, sym, ap, ◌∙◌}
-use mathlib.Core.Bool.{Bool, true, false, not, cond, ◌&&◌, true≢false}
+use mathlib.Core.Bool.{Bool, true, false, cond, ◌&&◌}
 use mathlib.Core.List.{List, [], ◌∷◌, ◌++◌}
-use native.Mathlib.Nat.{mul-le-mul}
 use native.Mathlib.Decide.{dec_le, ℕ_discrete}
 use native.Mathlib.Omega.{arith}
 use lib.Dec.{ltb, eqb}
-use lib.ListN.{length, get_or, set, get_or-eq_default, replicate, length-set, get_or-replicate}
-use lib.Seq.{get_or-set_same, get_or-set_other, set-get_or}
+use lib.ListN.{get_or, set, replicate, length-set, get_or-replicate}
+use lib.Seq.{get_or-set_same, get_or-set_other}
 use borrow.Author.Tests.{lt-ltb, le-ltb, eq-eqb, ne_eqb}
 use Rattle.fields.specs.declared.spot.Spot.{Spot}
 use Rattle.fields.specs.Reaching.{whole, reads_from}
@@ -16,7 +15,7 @@ use Rattle.records.specs.declared.counts.Counts.{Counts}
 use Rattle.records.specs.declared.line.Line.{Line}
 use Rattle.records.specs.Plants.{most_plants}
 use Rattle.records.specs.Segments.{most_segments}
-use Rattle.records.specs.Classes.{plant_owner, segment_owner}
+use Rattle.records.specs.Classes.{plant_owner}
 use Rattle.records.specs.Lines.{most_grams}
 use Rattle.records.specs.Periods.{line}
 use Rattle.records.specs.Within.{CountsWithin, LineWithin, most_counts}
@@ -24,20 +23,13 @@ use Rattle.records.proofs.RecordsWithin.{line_within as line_read_within}
 use Rattle.records.proofs.Within.{line_within_most}
 use Rattle.accounts.specs.Emissions.{grams, owned_by, grams_of, of_classes, is_added, is_fuel, is_captured}
 use Rattle.accounts.proofs.OwnersLines.{no_grams, grams_with, grams_of_both}
-use Rattle.gathering.specs.OwnerTotals.{over_grams, capped, counted_on, most_of_line, owners, owner_place, Owner, Columns, columns_of, NoTotals, SmallColumn, SmallColumns, counted_at, columns_with, Totalled, Sums}
+use Rattle.gathering.specs.declared.totals.Totals.{Totals}
+use Rattle.gathering.specs.OwnerTotals.{capped, counted_on, owners, owner_place, Owner, no_totals, counted_at, totals_with, Totalled, Sums}
 
 -- ---- an owner and the place of its totals
 -- its place is one of those for owners
 pub place_below : {owner_kind owner place : ℕ} → Owner owner_kind owner place → place < owners
 place_below o = omega arith
-
--- and each of these is an owner's
-place_owned : (place : ℕ) → place < owners → (owner_kind : ℕ) × ((owner : ℕ) × Owner owner_kind owner place)
-place_owned place below = by_kind (dec_le (suc place) most_plants)
-  where
-    by_kind : Dec (suc place ≤ most_plants) → (owner_kind : ℕ) × ((owner : ℕ) × Owner owner_kind owner place)
-    by_kind (yes p) = (plant_owner, (suc place, omega arith))
-    by_kind (no p) = (segment_owner, (suc place - most_plants, omega arith))
 
 -- a line is this owner's exactly if the owner of the line has the same place
 owned :
@@ -67,18 +59,19 @@ line_owner {own} {place} {line} within is = by_kind (dec_le line.owner_kind plan
     by_kind (yes p) = let most : line.owner ≤ most_plants = within.plant (omega arith) in omega arith
     by_kind (no p) = let most : line.owner ≤ most_segments = within.segment (omega arith) in omega arith
 
--- its grams
-pub line_grams : {counts : Counts} {own : ℕ} {line : Line} → LineWithin counts own line → grams line ≤ most_of_line
-line_grams within = mul-le-mul within.quantity within.factor
+-- ---- a total that is counted no further, with a line's grams
+counted_capped : (total : ℕ) (counts : Bool) (grams : ℕ) → counted_on (capped total) counts grams ≡ capped (total + cond counts grams 0)
+counted_capped total true grams = omega arith
+counted_capped total false grams = omega arith
 
 -- ---- one column, by the classes that count in it
 module _ (these : ℕ → Bool) where
   -- of no line
-  totalled_start : (column : List ℕ) → column ≡ replicate owners 0 → Totalled these [] column
-  totalled_start column zeros = rw zeros (record {
+  totalled_start : Totalled these [] (replicate owners 0)
+  totalled_start = record {
     places = refl;
     each = λ owner_kind owner place o. get_or-replicate owners place 0 0 (place_below o) ∙ omega (arith, no_grams (of_classes these owner_kind owner));
-  })
+  }
 
   module _ {lines : List Line} {column : List ℕ} (so_far : Totalled these lines column) where
     -- of one more: its owner's total has its grams, if they count, and the others stay
@@ -108,58 +101,24 @@ module _ (these : ℕ → Bool) where
         by_place owner_kind owner' place' o' (yes p) =
             let here = rw (eq-eqb place' place p) at (one_more owner_kind owner' place' o') in
             let before = rw p at (so_far.each owner_kind owner' place' o') in
-            rw (p, get_or-set_same column place (counted_on (get_or column place 0) (these line.class) (grams line)) 0 (rw so_far.places (place_below owner)))
-            (omega (arith, here, before))
+            rw (p, get_or-set_same column place (counted_on (get_or column place 0) (these line.class) (grams line)) 0 (rw so_far.places (place_below owner)), before)
+            (counted_capped (grams_of (of_classes these owner_kind owner') lines) (these line.class) (grams line) ∙ ap capped (sym here))
         by_place owner_kind owner' place' o' (no p) =
             rw (get_or-set_other column place place' (counted_on (get_or column place 0) (these line.class) (grams line)) 0 p)
             (so_far.each owner_kind owner' place' o' ∙ ap capped (sym (omega (arith, rw (ne_eqb place' place p) at (one_more owner_kind owner' place' o')))))
 
-    -- none is past one over the limit
-    pub totalled_small : SmallColumn column
-    totalled_small place = by_place (dec_le (suc place) owners)
-      where
-        by_place : Dec (suc place ≤ owners) → get_or column place 0 ≤ over_grams
-        by_place (yes here) = let (owner_kind, (owner, o)) = place_owned place here in omega (arith, so_far.each owner_kind owner place o)
-        by_place (no behind) =
-            let past : length column ≤ place = omega (arith, behind, so_far.places) in
-            omega (arith, get_or-eq_default column 0 past)
-
 -- ---- all three
-pub sums_start : (added fuel captured : List ℕ) → NoTotals added fuel captured → Sums [] (columns_of added fuel captured)
-sums_start added fuel captured (a, (f, c)) =
-    record { added = totalled_start is_added added a; fuel = totalled_start is_fuel fuel f; captured = totalled_start is_captured captured c }
+pub sums_start : Sums [] no_totals
+sums_start = record { added = totalled_start is_added; fuel = totalled_start is_fuel; captured = totalled_start is_captured }
 
-module _ {lines : List Line} {columns : Columns} (so_far : Sums lines columns) where
-  pub sums_on :
-      (line : Line) (place : ℕ) → Owner line.owner_kind line.owner place → Sums (lines ++ (line ∷ [])) (columns_with columns place line)
-  sums_on line place owner = record {
-    added = totalled_on is_added so_far.added line place owner;
-    fuel = totalled_on is_fuel so_far.fuel line place owner;
-    captured = totalled_on is_captured so_far.captured line place owner;
-  }
-
-  pub sums_small : SmallColumns columns
-  sums_small = record {
-    added = totalled_small is_added so_far.added;
-    fuel = totalled_small is_fuel so_far.fuel;
-    captured = totalled_small is_captured so_far.captured;
-  }
-
--- ---- a line's grams, if they do not count in a column, and if they do
-module _ (column : List ℕ) (place of_line : ℕ) (counts : Bool) where
-  pub left_out : not counts ≡ true → get_or column place 0 ≤ over_grams → column ≡ counted_at column place counts of_line
-  left_out is small = sym (set-get_or column place 0) ∙ ap (set column place) (same counts is)
-    where
-      same : (counts : Bool) → not counts ≡ true → get_or column place 0 ≡ counted_on (get_or column place 0) counts of_line
-      same true is = absurd (true≢false (sym is))
-      same false is = omega (arith, small)
-
-  pub taken_in : (sum : ℕ) → not counts ≡ false → sum ≡ capped (get_or column place 0 + of_line) → set column place sum ≡ counted_at column place counts of_line
-  taken_in sum is same = ap (set column place) (by_class counts is)
-    where
-      by_class : (counts : Bool) → not counts ≡ false → sum ≡ counted_on (get_or column place 0) counts of_line
-      by_class true is = same
-      by_class false is = absurd (true≢false is)
+pub sums_on :
+    {lines : List Line} {totals : Totals} → Sums lines totals → (line : Line) (place : ℕ) → Owner line.owner_kind line.owner place →
+    Sums (lines ++ (line ∷ [])) (totals_with totals place line)
+sums_on so_far line place owner = record {
+  added = totalled_on is_added so_far.added line place owner;
+  fuel = totalled_on is_fuel so_far.fuel line place owner;
+  captured = totalled_on is_captured so_far.captured line place owner;
+}
 
 -- ---- tests of totals that are counted no further
 -- whether one passes the limit

@@ -6,17 +6,15 @@ use mathlib.Core.List.{List}
 use native.Mathlib.Omega.{arith}
 use lib.Dec.{ltb}
 use lib.ListN.{length, get_or}
-use Rattle.fields.specs.declared.answer.Answer.{Answer}
-use Rattle.fields.specs.declared.answer.Answer.TheVariants.{Accepted, Refused}
 use Rattle.fields.specs.declared.answer.Refusal.{Refusal}
 use Rattle.fields.specs.declared.reason.Reason.TheVariants.{CapturedOverFuel}
 use Rattle.fields.specs.declared.spot.Spot.{Spot}
-use Rattle.fields.specs.Answers.{Verdict, accepts, refuses, said}
+use Rattle.fields.specs.Answers.{Verdict, accepts, refuses, refusing}
 use Rattle.fields.specs.Lists.{filled}
 use Rattle.fields.specs.Spots.{end_at}
 use Rattle.fields.specs.Reaching.{Reach, whole, stopped, reads_from}
 use Rattle.fields.specs.Tests.{Test, tested_by, listed}
-use Rattle.fields.proofs.Answers.{refused_not_accepted, refuses_not_accepts}
+use Rattle.fields.proofs.Answers.{refuses_not_accepts}
 use Rattle.fields.proofs.Testing.{none_fails, tests_turned}
 use Rattle.records.specs.declared.counts.Counts.{Counts}
 use Rattle.records.specs.declared.line.Line.{Line}
@@ -31,13 +29,13 @@ use Rattle.accounts.specs.Emissions.{of_classes, is_added, added_grams, fuel_gra
 use Rattle.accounts.specs.Order.{line_tests, fuel_test, emission_tests}
 use Rattle.accounts.proofs.Accepting.{grams_each}
 use Rattle.accounts.proofs.OwnersLines.{no_grams, fuel_is_added}
-use Rattle.gathering.specs.declared.emissions.Added.{Added}
 use Rattle.gathering.specs.declared.emissions.Emissions.{Emissions}
-use Rattle.gathering.specs.Gathered.{owner_column, OwnerEmissions}
-use Rattle.gathering.specs.OwnerTotals.{Owner, columns_of, SmallColumn, Sums, fuel_test_by, kg_column}
-use Rattle.gathering.specs.Inside.{and_then, ten_ruling, lines_ruling, LinesAdded, AddedUp, none_added}
+use Rattle.gathering.specs.declared.totals.Totals.{Totals}
+use Rattle.gathering.specs.Gathered.{owner_column}
+use Rattle.gathering.specs.OwnerTotals.{Owner, Sums, fuel_test_by, kg_column}
+use Rattle.gathering.specs.Inside.{and_then, ten_ruling, lines_ruling, AllAdded, AllEmitted}
 use Rattle.gathering.proofs.Listing.{listed_same}
-use Rattle.gathering.proofs.OwnerTotals.{totalled_small, capped_less}
+use Rattle.gathering.proofs.OwnerTotals.{capped_less}
 
 -- ---- the totals of lines that 10 does not refuse
 module _ (starts : ℕ → ℕ) (lines : List Line) (passed : tested_by refuses (line_tests starts lines 0 lines) accepts ≡ accepts) where
@@ -48,39 +46,37 @@ module _ (starts : ℕ → ℕ) (lines : List Line) (passed : tested_by refuses 
       (none_fails refuses (line_tests starts lines 0 lines) accepts accepts (λ notice e. refuses_not_accepts e) passed)
       (omega (arith, no_grams (of_classes is_added owner_kind owner)))
 
-  module _ {added fuel captured : List ℕ} (sums : Sums lines (columns_of added fuel captured)) where
+  module _ {totals : Totals} (sums : Sums lines totals) where
     -- 16 by the totals of a plant is 16 by its lines
-    same_test : (bytes index : ℕ) → index < most_plants → fuel_test_by bytes fuel captured index ≡ fuel_test bytes lines index
+    same_test : (bytes index : ℕ) → index < most_plants → fuel_test_by bytes totals index ≡ fuel_test bytes lines index
     same_test bytes index below =
         let o : Owner plant_owner (suc index) index = omega (arith, below) in
         let burnt = fuel_grams plant_owner (suc index) lines in
         let taken = captured_grams plant_owner (suc index) lines in
-        let fails : ltb (get_or fuel index 0) (get_or captured index 0) ≡ ltb burnt taken =
+        let fails : ltb (get_or totals.fuel index 0) (get_or totals.captured index 0) ≡ ltb burnt taken =
         ap₂ ltb (sums.fuel.each plant_owner (suc index) index o) (sums.captured.each plant_owner (suc index) index o)
         ∙ capped_less burnt taken (omega (arith, fuel_is_added plant_owner (suc index) lines, few plant_owner (suc index))) in
         ap (λ (t : Bool). record { fails = t; reason = CapturedOverFuel; place = suc index; offset = bytes }) fails
 
-    same_tests : (bytes count : ℕ) → count ≤ most_plants → listed (fuel_test_by bytes fuel captured) 0 count ≡ listed (fuel_test bytes lines) 0 count
+    same_tests : (bytes count : ℕ) → count ≤ most_plants → listed (fuel_test_by bytes totals) 0 count ≡ listed (fuel_test bytes lines) 0 count
     same_tests bytes count most = listed_same _ _ count (λ index below. same_test bytes index (omega (arith, below, most)))
 
     -- the totals in kg are what the owners emit: what is captured is taken off a total that is counted in full
     in_kg_lem :
         (owner_kind owner place : ℕ) → Owner owner_kind owner place →
-        less_captured (get_or added place 0) (get_or captured place 0) ≡ emission owner_kind owner lines
+        less_captured (get_or totals.added place 0) (get_or totals.captured place 0) ≡ emission owner_kind owner lines
     unfolding emission
     in_kg_lem owner_kind owner place o =
         ap in_kg (omega (arith, sums.added.each owner_kind owner place o, sums.captured.each owner_kind owner place o, few owner_kind owner))
 
     kg_column_lem :
         (owner_kind first count : ℕ) → ((o : ℕ) → o < count → Owner owner_kind (suc o) (first + o)) →
-        kg_column added captured first count ≡ owner_column owner_kind count lines
+        kg_column totals first count ≡ owner_column owner_kind count lines
     kg_column_lem owner_kind first count owner =
         ap (filled 0 most_segments) (listed_same _ _ count (λ o here. in_kg_lem owner_kind (suc o) (first + o) (owner o here)))
 
 -- ---- what is said with 16: as with 10, and then what 16 says
-module _
-    {file : List ℕ} {start : Spot} {counts : Counts} {answer : Answer} {added fuel captured : List ℕ}
-    (so_far : LinesAdded file start counts answer (columns_of added fuel captured)) where
+module _ (file : List ℕ) (start : Spot) (counts : Counts) where
   abbrev came : Reach (List Line)
   came = reads_from (lines_of counts) file start
 
@@ -101,66 +97,52 @@ module _
           (line_tests (line_start file counts) lines 0 lines) (listed (fuel_test (length file) lines) 0 counts.plants) accepts accepts refl
 
   -- reading or 10 refuses
-  pub ten_out : (why : Refusal) → answer ≡ Refused why → AddedUp file start counts (none_added why)
-  ten_out why is = record {
-    verdict = by_reading came (sym (ap said is) ∙ so_far.verdict);
-    emitted = λ accepted. absurd (refused_not_accepted accepted);
-    all_bytes = λ accepted. absurd (refused_not_accepted accepted);
-  }
+  pub ten_out : (why : Refusal) → refusing why ≡ ten_ruling file counts came → refusing why ≡ lines_ruling file counts came
+  ten_out why told = by_reading came told
     where
-      by_reading : (outcome : Reach (List Line)) → said (Refused why) ≡ ten_ruling file counts outcome → said (Refused why) ≡ lines_ruling file counts outcome
+      by_reading : (outcome : Reach (List Line)) → refusing why ≡ ten_ruling file counts outcome → refusing why ≡ lines_ruling file counts outcome
       by_reading (stopped notice) e = e
       by_reading (whole lines last) e = sym (ruled lines last ∙ ap (λ (v : Verdict). and_then v (sixteen lines)) (sym e))
 
-  -- neither does: no total is counted past one over the limit
-  pub small_added : answer ≡ Accepted → SmallColumn added
-  small_added accepted = by_reading came refl
-    where
-      by_reading : (outcome : Reach (List Line)) → came ≡ outcome → SmallColumn added
-      by_reading (stopped notice) e = absurd (refuses_not_accepts (sym (ap (ten_ruling file counts) e) ∙ sym so_far.verdict ∙ ap said accepted))
-      by_reading (whole lines last) e = totalled_small is_added (so_far.sums accepted lines last e).added
+  -- neither does: 16 decides by the totals, and if it accepts, the owners emit what the totals say
+  module _ {totals : Totals} (all : AllAdded file start counts totals) (within : CountsWithin counts) where
+    passed : tested_by refuses (line_tests (line_start file counts) all.lines 0 all.lines) accepts ≡ accepts
+    passed = by_end (end_at file all.last) all.passed
+      where
+        by_end :
+            (v : Verdict) → and_then v (tested_by refuses (line_tests (line_start file counts) all.lines 0 all.lines) accepts) ≡ accepts →
+            tested_by refuses (line_tests (line_start file counts) all.lines 0 all.lines) accepts ≡ accepts
+        by_end (refuses notice) same = absurd (refuses_not_accepts same)
+        by_end accepts same = same
 
-  -- what the owners emit by their totals
-  abbrev emissions_by : (bytes : ℕ) → Emissions
-  emissions_by bytes =
-      record { bytes = bytes; plants = kg_column added captured 0 counts.plants; segments = kg_column added captured most_plants counts.segments }
+    abbrev by_totals : Verdict
+    by_totals = tested_by refuses (listed (fuel_test_by (length file) totals) 0 counts.plants) accepts
 
-  -- 16 decides, and if it accepts, the owners emit what the totals say
-  pub sixteen_decides :
-      answer ≡ Accepted → CountsWithin counts → (r : Added) →
-      said r.answer ≡ tested_by refuses (listed (fuel_test_by (length file) fuel captured) 0 counts.plants) accepts →
-      (r.answer ≡ Accepted → r.emissions ≡ emissions_by (length file)) → AddedUp file start counts r
-  sixteen_decides accepted within r told kg = record {
-    verdict = by_reading came refl;
-    emitted = λ is lines last e. by_lines is lines last e (passed lines last e) (so_far.sums accepted lines last e);
-    all_bytes = λ is. ap (λ (x : Emissions). x.bytes) (kg is);
-  }
-    where
-      passed : (lines : List Line) (last : Spot) → came ≡ whole lines last → tested_by refuses (line_tests (line_start file counts) lines 0 lines) accepts ≡ accepts
-      passed lines last e = by_end (end_at file last) (sym (ap (ten_ruling file counts) e) ∙ sym so_far.verdict ∙ ap said accepted)
-        where
-          by_end : (v : Verdict) → and_then v (tested_by refuses (line_tests (line_start file counts) lines 0 lines) accepts) ≡ accepts → tested_by refuses (line_tests (line_start file counts) lines 0 lines) accepts ≡ accepts
-          by_end (refuses notice) same = absurd (refuses_not_accepts same)
-          by_end accepts same = same
+    decides : by_totals ≡ lines_ruling file counts (whole all.lines all.last)
+    decides =
+        ap (λ (tests : List Test). tested_by refuses tests accepts)
+        (same_tests (line_start file counts) all.lines passed all.sums (length file) counts.plants within.most_plants_is)
+        ∙ sym (ruled all.lines all.last ∙ ap (λ (v : Verdict). and_then v (sixteen all.lines)) all.passed)
 
-      by_reading : (outcome : Reach (List Line)) → came ≡ outcome → said r.answer ≡ lines_ruling file counts came
-      by_reading (stopped notice) e = absurd (refuses_not_accepts (sym (ap (ten_ruling file counts) e) ∙ sym so_far.verdict ∙ ap said accepted))
-      by_reading (whole lines last) e =
-          let ten : ten_ruling file counts (whole lines last) ≡ accepts = sym (ap (ten_ruling file counts) e) ∙ sym so_far.verdict ∙ ap said accepted in
-          told
-          ∙ ap (λ (tests : List Test). tested_by refuses tests accepts)
-          (same_tests (line_start file counts) lines (passed lines last e) (so_far.sums accepted lines last e) (length file) counts.plants within.most_plants_is)
-          ∙ sym (ap (lines_ruling file counts) e ∙ ruled lines last ∙ ap (λ (v : Verdict). and_then v (sixteen lines)) ten)
+    pub sixteen_out : (why : Refusal) → refusing why ≡ by_totals → refusing why ≡ lines_ruling file counts came
+    sixteen_out why told = told ∙ decides ∙ sym (ap (lines_ruling file counts) all.came)
 
-      by_lines :
-          r.answer ≡ Accepted → (lines : List Line) (last : Spot) → came ≡ whole lines last →
-          tested_by refuses (line_tests (line_start file counts) lines 0 lines) accepts ≡ accepts → Sums lines (columns_of added fuel captured) →
-          OwnerEmissions r.emissions.plants r.emissions.segments counts lines
-      by_lines is lines last e ten sums = record {
-        plants_are =
-            ap (λ (x : Emissions). x.plants) (kg is)
-            ∙ kg_column_lem (line_start file counts) lines ten sums plant_owner 0 counts.plants (λ o h. omega (arith, h, within.most_plants_is));
-        segments_are =
-            ap (λ (x : Emissions). x.segments) (kg is)
-            ∙ kg_column_lem (line_start file counts) lines ten sums segment_owner most_plants counts.segments (λ o h. omega (arith, h, within.most_segments_is));
-      }
+    pub all_emitted :
+        accepts ≡ by_totals → (emissions : Emissions) → emissions.bytes ≡ length file → emissions.plants ≡ kg_column totals 0 counts.plants →
+        emissions.segments ≡ kg_column totals most_plants counts.segments → AllEmitted file start counts emissions
+    all_emitted told emissions bytes plants segments = record {
+      lines = all.lines;
+      last = all.last;
+      came = all.came;
+      passed = sym (told ∙ decides);
+      emitted = record {
+        plants_are = plants ∙ kg plant_owner 0 counts.plants (λ o h. omega (arith, h, within.most_plants_is));
+        segments_are = segments ∙ kg segment_owner most_plants counts.segments (λ o h. omega (arith, h, within.most_segments_is));
+      };
+      all_bytes = bytes;
+    }
+      where
+        kg :
+            (owner_kind first count : ℕ) → ((o : ℕ) → o < count → Owner owner_kind (suc o) (first + o)) →
+            kg_column totals first count ≡ owner_column owner_kind count all.lines
+        kg = kg_column_lem (line_start file counts) all.lines passed all.sums

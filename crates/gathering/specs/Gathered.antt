@@ -1,15 +1,14 @@
 -- What a file gives before any segment has its turn: whether it is refused (1 to 10, 16), its records, and what every plant and segment emits.
-use Rattle.std.specs.Prelude.{ℕ, suc, ◌≡◌, List, [], map, length}
-use Rattle.fields.specs.Answers.{Notice, Verdict, accepts, refuses, said}
+use Rattle.std.specs.Prelude.{ℕ, suc, ◌≡◌, List, [], length, Result, Ok, Err}
+use Rattle.fields.specs.declared.answer.Refusal.{Refusal}
+use Rattle.fields.specs.Answers.{Notice, Verdict, accepts, refuses, refusing}
 use Rattle.fields.specs.Lists.{filled}
 use Rattle.fields.specs.Readers.{Read, read, refused}
 use Rattle.fields.specs.Tests.{Test, tested_by, listed}
 use Rattle.records.specs.declared.counts.Counts.{Counts}
-use Rattle.records.specs.declared.plant.Plant.{Plant}
-use Rattle.records.specs.declared.segment.Segment.{Segment}
 use Rattle.records.specs.declared.line.Line.{Line}
-use Rattle.records.specs.Plants.{most_plants}
-use Rattle.records.specs.Segments.{most_segments}
+use Rattle.records.specs.Plants.{most_plants, no_plant}
+use Rattle.records.specs.Segments.{most_segments, no_segment}
 use Rattle.records.specs.Classes.{plant_owner, segment_owner}
 use Rattle.records.specs.Periods.{Period, period_of, period_file}
 use Rattle.records.specs.Places.{line_start}
@@ -17,8 +16,6 @@ use Rattle.records.specs.Within.{counts_of}
 use Rattle.accounts.specs.Emissions.{emission}
 use Rattle.accounts.specs.Order.{emission_tests}
 use Rattle.gathering.specs.declared.gathering.Gathered.{Gathered}
-use Rattle.gathering.specs.declared.network.Plants.{Plants}
-use Rattle.gathering.specs.declared.network.Segments.{Segments}
 
 -- The tests of a period that was read from a file, before any segment has its turn: 10 over its lines, then 16 over its plants (rules 8.5, 8.9
 -- and 8.10).
@@ -49,21 +46,6 @@ unfoldable pub gathering : List ℕ → Contents
 gathering file = gathered_after file (period_file file)
 
 -- ---- the promise of the call
--- A column: one figure of each record, in an array with `room` entries, and zeros behind.
-abbrev pub column_of : {A : Type 0} → ℕ → (A → ℕ) → List A → List ℕ
-column_of room figure records = filled 0 room (map figure records)
-
--- The columns of plants, and below of segments (rules 2.4 and 2.5).
-pub record PlantRecords (r : Plants) (plants : List Plant) : Type 0 where
-  pub exported : r.exported ≡ column_of most_plants (λ (plant : Plant). plant.exported) plants
-  pub first : r.first ≡ column_of most_plants (λ (plant : Plant). plant.first) plants
-  pub fraction : r.fraction ≡ column_of most_plants (λ (plant : Plant). plant.fraction) plants
-
-pub record SegmentRecords (r : Segments) (segments : List Segment) : Type 0 where
-  pub kind : r.kind ≡ column_of most_segments (λ (segment : Segment). segment.kind) segments
-  pub outflow : r.outflow ≡ column_of most_segments (λ (segment : Segment). segment.outflow) segments
-  pub next : r.next ≡ column_of most_segments (λ (segment : Segment). segment.next) segments
-
 -- The column of what the first `count` owners of a kind emit by these lines; both kinds have the same room (rules 4.3 and 4.4).
 abbrev pub owner_column : (owner_kind count : ℕ) → List Line → List ℕ
 owner_column owner_kind count lines = filled 0 most_segments (listed (λ (index : ℕ). emission owner_kind (suc index) lines) 0 count)
@@ -73,15 +55,21 @@ pub record OwnerEmissions (plants segments : List ℕ) (counts : Counts) (lines 
   pub plants_are : plants ≡ owner_column plant_owner counts.plants lines
   pub segments_are : segments ≡ owner_column segment_owner counts.segments lines
 
--- What the code's answer says of the contents: the verdict, how many records there are, their columns, what they emit, and how many bytes were read.
-pub record Gathers (r : Gathered) (contents : Contents) : Type 0 where
-  pub verdict : said r.answer ≡ contents.verdict
+-- What is gathered holds the contents, which are accepted: how many records there are, plants and segments in arrays with zeros behind them (rules 2.4
+-- and 2.5), what they emit, and how many bytes were read.
+pub record Holds (r : Gathered) (contents : Contents) : Type 0 where
+  pub verdict : accepts ≡ contents.verdict
   pub counts : r.counts ≡ counts_of contents.period
-  pub plants : PlantRecords r.plants contents.period.plants
-  pub segments : SegmentRecords r.segments contents.period.segments
+  pub plants : r.plants ≡ filled no_plant most_plants contents.period.plants
+  pub segments : r.segments ≡ filled no_segment most_segments contents.period.segments
   pub emissions : OwnerEmissions r.emissions.plants r.emissions.segments (counts_of contents.period) contents.period.lines
   pub bytes : r.emissions.bytes ≡ contents.bytes
 
+-- What the code says of the contents: all that they are, or the refusal.
+abbrev pub Gathers : Result Gathered Refusal → Contents → Type 0
+Gathers (Ok r) contents = Holds r contents
+Gathers (Err refusal) contents = refusing refusal ≡ contents.verdict
+
 -- The promise of `gather`: its answer is what is gathered of the file (rules 2.1 to 4.4, 8.1 to 8.5, 8.9 and 8.10).
-abbrev pub GatherPromise : List ℕ → Gathered → Type 0
+abbrev pub GatherPromise : List ℕ → Result Gathered Refusal → Type 0
 GatherPromise file r = Gathers r (gathering file)

@@ -1,6 +1,5 @@
 -- What a file gives before any segment has its turn.
 pub mod Gathered
--- What private functions promise: columns of records, the owners' totals, and the rest.
-pub mod Kept
+-- What private functions promise: the owners' totals, and the rest.
 pub mod OwnerTotals
 pub mod Inside

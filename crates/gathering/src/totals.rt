@@ -1,69 +1,106 @@
 // The totals of the owners: the grams of their lines, in a column for each way in which classes count (rules 3.4, 4.2 and 4.4).
 ghost use Rattle.std.specs.Prelude.{◌≡◌, ◌+◌, ◌<◌, ◌≤◌, get_or};
+ghost use Rattle.records.specs.Plants.{most_plants};
+ghost use Rattle.records.specs.Segments.{most_segments};
 ghost use Rattle.records.specs.Within.{LineWithin, most_counts};
+ghost use Rattle.fields.specs.Answers.{accepts, refuses, said};
+ghost use Rattle.fields.specs.Tests.{listed, tested_by};
 ghost use Rattle.accounts.specs.Emissions.{less_captured};
-ghost use Rattle.gathering.specs.OwnerTotals.{capped, columns_of, columns_with, counted_at, most_of_line, over_grams, owners, SmallColumns};
+ghost use Rattle.gathering.specs.OwnerTotals.{counted_at, fuel_test_by, kg_column, no_totals, owner_place, owners, totals_with};
 
+use crate::emissions::Emissions;
+use fields::{Answer, Reason, refused};
 use records::{Class, Line, Plant, Segment};
 
 // The places of a column: those of the plants, and behind them those of the segments.
-pub(crate) const PLACES: usize = Plant::MOST + Segment::MOST;
+const PLACES: usize = Plant::MOST + Segment::MOST;
 
-// Adds a line to the totals at its owner's place: what is added, what of it is fuel, and what is captured, each by what the row of the line's class
-// says (rules 3.4, 4.1 and 4.2).
-pub(crate) fn add_line(
-    line: Line,
-    owner: usize,
-    added: &mut [u64; PLACES],
-    fuel: &mut [u64; PLACES],
-    captured: &mut [u64; PLACES],
-)
-    requires line_within { LineWithin most_counts 1 line }
-    requires owner_lt_owners { owner < owners }
-    requires small_columns { SmallColumns (columns_of added.old fuel.old captured.old) }
-    ensures { columns_of added.new fuel.new captured.new ≡ columns_with (columns_of added.old fuel.old captured.old) owner line }
-{
-    let class = Class::of(line.class as u64);
-    let grams = line.quantity as u64 * line.factor as u64;
-    count(added, owner, class.added, grams);
-    count(fuel, owner, class.fuel, grams);
-    count(captured, owner, class.captured, grams);
+// What is added for each owner, what of it is fuel, and what is captured, in grams.
+#[derive(Drop)]
+pub(crate) struct Totals {
+    added: [u64; PLACES],
+    fuel: [u64; PLACES],
+    captured: [u64; PLACES],
 }
 
-// Adds a line's grams to its owner's total in a column, if they count there; where they do not, nothing is stored.
+impl Totals {
+    // Those of no line.
+    pub(crate) fn new() -> Totals
+        ensures { result ≡ no_totals }
+    {
+        Totals {
+            added: [0; PLACES],
+            fuel: [0; PLACES],
+            captured: [0; PLACES],
+        }
+    }
+
+    // Adds a line to its owner's totals, each by what the row of the line's class says, and gives what is added for that owner so far (rules 3.4, 4.1
+    // and 4.2).
+    pub(crate) fn add(&mut self, line: Line) -> u64
+        requires { LineWithin most_counts 1 line }
+        ensures with_line { self.new ≡ totals_with self.old (owner_place line.owner_kind line.owner) line }
+        ensures total { result ≡ get_or self.new.added (owner_place line.owner_kind line.owner) 0 }
+    {
+        let owner = place_of(line);
+        let class = Class::of(line.class as u64);
+        let grams = line.quantity as u64 * line.factor as u64;
+        count(&mut self.added, owner, class.added, grams);
+        count(&mut self.fuel, owner, class.fuel, grams);
+        count(&mut self.captured, owner, class.captured, grams);
+        self.added[owner]
+    }
+
+    // 16, plant by plant: whether more is captured than its fuel gives (rule 8.10).
+    pub(crate) fn test_captured(&self, count: usize, bytes: u64) -> Answer
+        requires { count ≤ most_plants }
+        ensures { said result ≡ tested_by refuses (listed (fuel_test_by bytes self.now) 0 count) accepts }
+    {
+        for p in 0..count {
+            if self.fuel[p] < self.captured[p] {
+                return refused(Reason::CapturedOverFuel, p as u64 + 1, bytes);
+            }
+        }
+        Ok(())
+    }
+
+    // The totals of `count` owners in kg, from the one at the place `first` on, and zeros behind them (rules 4.3 and 4.4).
+    pub(crate) fn in_kg(&self, first: usize, count: usize) -> [u64; Emissions::OWNERS]
+        requires count_bound { first + count ≤ most_plants + most_segments }
+        requires count_le_most_segments { count ≤ most_segments }
+        ensures { result ≡ kg_column self.now first count }
+    {
+        let mut kg = [0u64; Emissions::OWNERS];
+        for o in 0..count {
+            kg[o] = less_captured(self.added[first + o], self.captured[first + o]);
+        }
+        kg
+    }
+}
+
+// Where the totals of a line's owner stand.
+fn place_of(line: Line) -> usize
+    requires { LineWithin most_counts 1 line }
+    ensures { result ≡ owner_place line.owner_kind line.owner }
+{
+    Plant::MOST * line.owner_kind as usize + line.owner as usize - 1
+}
+
+// Adds a line's grams to its owner's total in a column, if they count there; past the limit it is counted no further (rule 9.3).
 fn count(column: &mut [u64; PLACES], owner: usize, counts: bool, grams: u64)
-    requires owner_lt_owners { owner < owners }
-    requires owner_bound { get_or column.old owner 0 ≤ over_grams }
-    requires grams_le_most_of_line { grams ≤ most_of_line }
+    requires { owner < owners }
     ensures { column.new ≡ counted_at column.old owner counts grams }
 {
-    if !counts {
-        return;
-    }
-    column[owner] = counted(column[owner], grams);
-}
-
-// A total with a line's grams; past the limit it is counted no further (rule 9.3).
-fn counted(total: u64, grams: u64) -> u64
-    requires total_le_over_grams { total ≤ over_grams }
-    requires grams_le_most_of_line { grams ≤ most_of_line }
-    ensures { result ≡ capped (total + grams) }
-{
-    let sum = total + grams;
-    if Line::MOST_GRAMS < sum {
-        Line::MOST_GRAMS + 1
-    } else {
-        sum
+    if counts {
+        column[owner] = column[owner]
+            .saturating_add(grams)
+            .min(Line::MOST_GRAMS + 1);
     }
 }
 
 // A total in kg: what is captured is taken off, and then the rest is rounded up (rules 4.3 and 4.4).
-pub(crate) fn less_captured(added: u64, captured: u64) -> u64
-    requires { added ≤ over_grams }
+fn less_captured(added: u64, captured: u64) -> u64
     ensures { result ≡ less_captured added captured }
 {
-    if added <= captured {
-        return 0;
-    }
-    (added - captured + (Class::GRAMS_IN_KG - 1)) / Class::GRAMS_IN_KG
+    added.saturating_sub(captured).div_ceil(Class::GRAMS_IN_KG)
 }

@@ -7,9 +7,10 @@ use mathlib.Core.List.{List, flat_map}
 use mathlib.Core.Logic.{◌↔◌}
 use native.Mathlib.Omega.{arith}
 use lib.ListN.{length}
-use Rattle.fields.specs.declared.answer.Answer.TheVariants.{Accepted as AcceptedAnswer}
+use Rattle.std.specs.Prelude.{Ok}
 use Rattle.fields.specs.Answers.{Notice, notice, accepts, refusal_number, refusal_place, refusal_offset}
 use Rattle.fields.specs.Tests.{Test, FirstFails, NoneFails}
+use Rattle.fields.proofs.Answers.{refuses_not_accepts}
 use Rattle.accounts.specs.Order.{Ruling, refusal, accepted}
 use Rattle.accounts.specs.Quantified.{rows, quantified}
 use Rattle.accounts.specs.AllTests.{all_tests}
@@ -19,7 +20,7 @@ use Rattle.accounts.proofs.Fits.{rows_fit}
 use Rattle.accounts.proofs.Order.{refused_exactly, accepted_is, accepted_exactly}
 use Rattle.accounts.proofs.Numbered.{refusal_numbered}
 use Rattle.period.specs.declared.call.Quantified.{Quantified}
-use Rattle.period.specs.Written.{Lent, lent, ruling_verdict, plant_entries, segment_entries, overwritten, HandsBack, QuantifyPromise, Left}
+use Rattle.period.specs.Written.{Lent, lent, Told, ruling_verdict, plant_entries, segment_entries, overwritten, HandsBack, QuantifyPromise, Left}
 use Rattle.plain.specs.Bytes.{whole_numbers, table_numbers, bytes_overwritten}
 use Rattle.plain.proofs.EightBytes.{first_length}
 use Rattle.tables.proofs.ReadBack.{numbers_overwritten}
@@ -70,7 +71,7 @@ module _ {file plants segments : List ℕ} {outcome : Outcome} (promised : Entry
   after = lent (table_numbers outcome.plants) (table_numbers outcome.segments)
 
   -- they meet the promise of the call below, with whatever it hands back for this ruling
-  pub numbers_promised : (told : Quantified) → HandsBack told ruling → QuantifyPromise file before told after
+  pub numbers_promised : (told : Told) → HandsBack told ruling → QuantifyPromise file before told after
   numbers_promised told hands_back =
       let read = tables_read ruling refl in
       record {
@@ -131,11 +132,11 @@ module _ {file plants segments : List ℕ} {outcome : Outcome} (promised : Entry
   -- and then they are left as an accepting call leaves tables of numbers, so that all its theorems hold of them
   pub left_in_bytes : outcome.result ≡ 0 → Left file after.plants after.segments
   left_in_bytes none =
-      let told : Quantified =
-      record { answer = AcceptedAnswer; plant_numbers = length (plant_entries ruling); segment_numbers = length (segment_entries ruling) } in
-      record {
-        before = before;
-        told = told;
-        promised = numbers_promised told (record { verdict = sym (accepted_told none); plants = refl; segments = refl });
-        accepting = refl;
-      }
+      let counts : Quantified = record { plant_numbers = length (plant_entries ruling); segment_numbers = length (segment_entries ruling) } in
+      record { before = before; written = counts; promised = numbers_promised (Ok counts) (handed_back ruling (accepted_told none)) }
+    where
+      handed_back :
+          (a : Ruling) → ruling_verdict a ≡ accepts →
+          HandsBack (Ok (record { plant_numbers = length (plant_entries a); segment_numbers = length (segment_entries a) })) a
+      handed_back (refusal notice) e = absurd (refuses_not_accepts e)
+      handed_back (accepted plants_told segments_told) e = (refl, refl)

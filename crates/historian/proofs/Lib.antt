@@ -1,7 +1,5 @@
 -- What the entry leaves in the tables.
 mod Tables
--- What the answer to a sheet leaves.
-mod Sheets
 -- No two outcomes meet a promise.
 pub mod Outcome
 -- The tables of the C caller, read as numbers.

@@ -1,10 +1,11 @@
 // The entry for a meter's sheet, which the historian calls from C (rules 10.8 and 12.9).
 ghost use Rattle.historian.specs.Sheets.{five, leaves, DaysEntryPromise};
 
-use fields::Answer;
+use fields::{refusal_number, refusal_offset, refusal_place};
 use meter::days;
 
 // Answers any sheet: number of refusal, place and offset, or 0, 0, 0 and the five figures if it is accepted (rules 10.8 and 12.9; include/steeplecuff.h).
+// Each number that a caller lends is a parameter, as the C interface has it.
 #[unsafe(no_mangle)]
 pub extern "C" fn steeplecuff_days(
     sheet: &[u8],
@@ -22,20 +23,15 @@ pub extern "C" fn steeplecuff_days(
         (leaves result place.new offset.new (five sum.new repeated.new repeated_zero.new longest.new first.new)) }
 {
     let found = days(sheet);
-    let answer = found.answer;
-    if let Answer::Refused(refusal) = answer {
-        let reason = refusal.reason;
-        *place = refusal.place;
-        *offset = refusal.offset;
-        return reason.number();
+    if let Ok(figures) = found {
+        *sum = figures.sum;
+        *repeated = figures.repeated;
+        *repeated_zero = figures.repeated_zero;
+        *longest = figures.longest;
+        *first = figures.first;
     }
-    let figures = found.figures;
-    *sum = figures.sum;
-    *repeated = figures.repeated;
-    *repeated_zero = figures.repeated_zero;
-    *longest = figures.longest;
-    *first = figures.first;
-    *place = 0;
-    *offset = 0;
-    0
+    let answer = found.map(|_figures| ());
+    *place = refusal_place(answer);
+    *offset = refusal_offset(answer);
+    refusal_number(answer)
 }

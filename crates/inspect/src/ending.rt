@@ -11,8 +11,8 @@ use crate::mark::{is_marked, put_close};
 use fields::{Answer, Spot};
 use inspector::{Field, step_at};
 use names::put_field;
-use number::{Number, bytes_at};
-use output::{print, put_bytes, put_line, put_number, put_refusal, put_spaced, put_words};
+use number::{Fault, Number, bytes_at};
+use output::{Text, print};
 use reading::verdict;
 
 // Where a walk stops.
@@ -26,136 +26,112 @@ enum Stop {
     Cut,
 }
 
-// Prints the text that waits in the room, and behind it the end of the page; the walk stopped at this spot and field.
-pub(crate) fn print_ending(
+// Prints the text that waits, and behind it the end of the page; the walk stopped at this spot and field.
+pub(crate) fn print_ending<const N: usize>(
     rt: &HostRuntime,
-    room: &mut [u8],
-    at: usize,
+    text: &mut Text<N>,
     file: &[u8],
     cut: bool,
     spot: Spot,
     field: Field,
 )
-    requires { at + most_page_text ≤ length room.old }
+    requires { text.old.end + most_page_text ≤ length text.old.room }
 {
-    let end = put_ending(room, at, file, cut, spot, field);
-    print(rt, b"inspect", &room[..end]);
+    put_ending(text, file, cut, spot, field);
+    print(rt, b"inspect", text.whole().unwrap());
 }
 
 // Puts the end of the page: the line of a number that has a fault, the line of a refused file, and the stop (rules 11.6 and 11.7).
-fn put_ending(
-    buffer: &mut [u8],
-    at: usize,
-    file: &[u8],
-    cut: bool,
-    spot: Spot,
-    field: Field,
-) -> usize
-    ensures { Put (page_end file.now cut spot.place spot.byte field) at buffer.old result buffer.new }
+fn put_ending<const N: usize>(text: &mut Text<N>, file: &[u8], cut: bool, spot: Spot, field: Field)
+    ensures { Put (page_end file.now cut spot.place spot.byte field) text.old.end text.old.room text.new.end text.new.room }
 {
     let report = step_at(file, spot.byte).report;
-    let found = report.number;
     let answer = verdict(file);
-    let stop = stop_of(found, cut, spot.byte == file.len());
-    let at = put_stopped_at(buffer, at, stop, file, spot, field);
-    let at = put_close_at(buffer, at, stop, is_marked(answer, spot.byte));
-    let at = put_verdict(buffer, at, answer);
-    put_stop(
-        buffer,
-        at,
-        stop,
-        found.refusal() as u64,
-        spot.place,
-        spot.byte,
-    )
+    let stop = stop_of(report.number, cut, spot.byte == file.len());
+    put_stopped_at(text, stop, file, spot, field);
+    put_close_at(text, stop, is_marked(answer, spot.byte));
+    put_verdict(text, answer);
+    put_stop(text, stop, report.refusal() as u64, spot);
 }
 
 // The stop by what is found there. If the bytes end, the file is cut there, or all of it is walked, or it ends inside a number.
-fn stop_of(found: Number, cut: bool, all_walked: bool) -> Stop
+fn stop_of(found: Result<Number, Fault>, cut: bool, all_walked: bool) -> Stop
     ensures { result ≡ stop_of (finds found) cut all_walked }
 {
     match found {
-        Number::Value { value: _, next: _ } => Stop::Fault,
-        Number::NotShortest => Stop::Fault,
-        Number::TooLarge => Stop::Fault,
-        Number::Ends => {
-            if cut {
-                return Stop::Cut;
-            }
-            if all_walked { Stop::End } else { Stop::Fault }
-        }
+        Err(Fault::Ends) if cut => Stop::Cut,
+        Err(Fault::Ends) if all_walked => Stop::End,
+        _ => Stop::Fault,
     }
 }
 
 // Puts the line of the number where the walk stopped, if it has a fault, up to its end.
-fn put_stopped_at(
-    buffer: &mut [u8],
-    at: usize,
+fn put_stopped_at<const N: usize>(
+    text: &mut Text<N>,
     stop: Stop,
     file: &[u8],
     spot: Spot,
     field: Field,
-) -> usize
-    ensures { Put (stopped_at stop file.now spot.place spot.byte field) at buffer.old result buffer.new }
+)
+    ensures { Put (stopped_at stop file.now spot.place spot.byte field) text.old.end text.old.room text.new.end text.new.room }
 {
     match stop {
-        Stop::Fault => put_faulty(buffer, at, file, spot, field),
-        Stop::End => put_words(buffer, at, b""),
-        Stop::Cut => put_words(buffer, at, b""),
+        Stop::Fault => put_faulty(text, file, spot, field),
+        Stop::End | Stop::Cut => text.put_words(b""),
     }
 }
 
 // Puts the line of a number that has a fault, and so no value: its bytes are shown instead (rule 11.7).
-fn put_faulty(buffer: &mut [u8], at: usize, file: &[u8], spot: Spot, field: Field) -> usize
-    ensures { Put (faulty_line file.now spot.place spot.byte field) at buffer.old result buffer.new }
+fn put_faulty<const N: usize>(text: &mut Text<N>, file: &[u8], spot: Spot, field: Field)
+    ensures { Put (faulty_line file.now spot.place spot.byte field) text.old.end text.old.room text.new.end text.new.room }
 {
-    let at = put_number(buffer, at, spot.place);
-    let at = put_spaced(buffer, at, spot.byte as u64);
-    let at = put_words(buffer, at, b" -");
-    let at = put_field(buffer, at, field);
-    let at = put_words(buffer, at, b":");
-    put_bytes_at(buffer, at, file, spot.byte)
+    text.put_number(spot.place);
+    text.put_spaced(spot.byte as u64);
+    text.put_words(b" -");
+    put_field(text, field);
+    text.put_words(b":");
+    put_bytes_at(text, file, spot.byte);
 }
 
 // Puts the bytes that belong to the number at a byte of the file (rule 11.7).
-fn put_bytes_at(buffer: &mut [u8], at: usize, file: &[u8], byte: usize) -> usize
-    ensures { Put (bytes_text (bytes_at file.now byte)) at buffer.old result buffer.new }
+fn put_bytes_at<const N: usize>(text: &mut Text<N>, file: &[u8], byte: usize)
+    ensures { Put (bytes_text (bytes_at file.now byte)) text.old.end text.old.room text.new.end text.new.room }
 {
     let count = bytes_at(file, byte);
     if count == 0 {
-        return put_bytes(buffer, at, b"");
+        text.put_bytes(b"");
+    } else {
+        text.put_bytes(&file[byte..byte + count]);
     }
-    put_bytes(buffer, at, &file[byte..byte + count])
 }
 
 // Puts the end of that line, if there is one (rule 11.7).
-fn put_close_at(buffer: &mut [u8], at: usize, stop: Stop, is_marked: bool) -> usize
-    ensures { Put (closed_at stop is_marked) at buffer.old result buffer.new }
+fn put_close_at<const N: usize>(text: &mut Text<N>, stop: Stop, is_marked: bool)
+    ensures { Put (closed_at stop is_marked) text.old.end text.old.room text.new.end text.new.room }
 {
     match stop {
-        Stop::Fault => put_close(buffer, at, is_marked),
-        Stop::End => put_words(buffer, at, b""),
-        Stop::Cut => put_words(buffer, at, b""),
+        Stop::Fault => put_close(text, is_marked),
+        Stop::End | Stop::Cut => text.put_words(b""),
     }
 }
 
 // Puts the line of a refused file (rule 11.2); nothing if it is accepted.
-fn put_verdict(buffer: &mut [u8], at: usize, answer: Answer) -> usize
-    ensures { Put (verdict_text (said answer)) at buffer.old result buffer.new }
+fn put_verdict<const N: usize>(text: &mut Text<N>, answer: Answer)
+    ensures { Put (verdict_text (said answer)) text.old.end text.old.room text.new.end text.new.room }
 {
-    if let Answer::Refused(refusal) = answer {
-        return put_refusal(buffer, at, refusal);
+    match answer {
+        Ok(()) => text.put_words(b""),
+        Err(refusal) => text.put_refusal(refusal),
     }
-    put_words(buffer, at, b"")
 }
 
 // Puts the last line: F with the fault and its place, or E or C with the counts of numbers and bytes before the stop (rule 11.6).
-fn put_stop(buffer: &mut [u8], at: usize, stop: Stop, fault: u64, place: u64, byte: usize) -> usize
-    ensures { Put (stop_line stop fault place byte) at buffer.old result buffer.new }
+fn put_stop<const N: usize>(text: &mut Text<N>, stop: Stop, fault: u64, spot: Spot)
+    ensures { Put (stop_line stop fault spot.place spot.byte) text.old.end text.old.room text.new.end text.new.room }
 {
     match stop {
-        Stop::Fault => put_line(buffer, at, b"F", &[fault, place]),
-        Stop::End => put_line(buffer, at, b"E", &[place, byte as u64]),
-        Stop::Cut => put_line(buffer, at, b"C", &[place, byte as u64]),
+        Stop::Fault => text.put_line(b"F", &[fault, spot.place]),
+        Stop::End => text.put_line(b"E", &[spot.place, spot.byte as u64]),
+        Stop::Cut => text.put_line(b"C", &[spot.place, spot.byte as u64]),
     }
 }

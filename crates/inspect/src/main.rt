@@ -7,20 +7,16 @@ mod page;
 mod room;
 
 use crate::page::print_page;
-use crate::room::text_room;
-use input::{Input, read_input};
+use input::read_input;
 
 // If standard input cannot be read, `read_input` says so, and nothing is printed.
 fn main(rt: HostRuntime) {
     let mut room = io::large_buffer();
     // The last byte of the room is not walked: it shows that a file goes on.
     let most = room.len() - 1;
-    let input = read_input(&rt, b"inspect", &mut room);
-    let Input::File { bytes } = input else {
+    let Some(bytes) = read_input(&rt, b"inspect", &mut room) else {
         return;
     };
-    let cut = most < bytes;
-    let walked = if cut { most } else { bytes };
-    let mut text = text_room();
-    print_page(&rt, &mut text, &room[..walked], cut);
+    let walked = bytes.min(most);
+    print_page(&rt, &room[..walked], most < bytes);
 }

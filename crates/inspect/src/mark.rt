@@ -5,24 +5,21 @@ ghost use Rattle.output.specs.Put.{Put};
 ghost use Rattle.inspect.specs.Page.{line_close, marked};
 
 use fields::Answer;
-use output::put_words;
+use output::Text;
 
 // Whether the number at a byte is that one: the offset of the refusal is its byte (rule 11.7).
 pub(crate) fn is_marked(answer: Answer, byte: usize) -> bool
     ensures { result ≡ marked (said answer) byte }
 {
-    match answer {
-        Answer::Accepted => false,
-        Answer::Refused(refusal) => refusal.offset == byte as u64,
-    }
+    answer.is_err_and(|refusal| refusal.offset == byte as u64)
 }
 
 // Puts the end of a number's line, with the mark if it is that one (rule 11.7).
-pub(crate) fn put_close(buffer: &mut [u8], at: usize, is_marked: bool) -> usize
-    ensures { Put (line_close is_marked) at buffer.old result buffer.new }
+pub(crate) fn put_close<const N: usize>(text: &mut Text<N>, is_marked: bool)
+    ensures { Put (line_close is_marked) text.old.end text.old.room text.new.end text.new.room }
 {
     if is_marked {
-        return put_words(buffer, at, b" <--\n");
+        text.put_words(b" <--");
     }
-    put_words(buffer, at, b"\n")
+    text.put_words(b"\n");
 }

@@ -1,7 +1,4 @@
 // Room for the lines of the inspector's page (rules 11.6 and 11.7).
-ghost use Rattle.std.specs.Prelude.{◌≤◌, length};
-ghost use Rattle.inspect.specs.Page.{most_page_text};
-
 use names::MOST_FIELD_WORDS;
 use number::Number;
 use output::{BYTE_TEXT, MOST_SPACED};
@@ -25,9 +22,5 @@ pub(crate) const MOST_TEXT: usize = MOST_FIELD_WORDS
 // How many of the longest texts there is room for, so that not every line is printed by itself.
 const TEXTS: usize = 10;
 
-// Zeros, with room for the lines that wait to be printed.
-pub(crate) fn text_room() -> [u8; TEXTS * MOST_TEXT]
-    ensures { most_page_text ≤ length result }
-{
-    [0; TEXTS * MOST_TEXT]
-}
+// Room for the lines that wait to be printed.
+pub(crate) const ROOM: usize = TEXTS * MOST_TEXT;

@@ -9,11 +9,11 @@ use Rattle.fields.specs.Answers.{Notice}
 use Rattle.fields.specs.Readers.{Read, read, refused, reads}
 use Rattle.fields.specs.Files.{ended}
 use Rattle.fields.proofs.EndOfFile.{more_left, none_left}
-use Rattle.records.specs.declared.header.Header.TheVariants.{Tells}
 use Rattle.records.specs.Headers.{header_of}
 use Rattle.records.specs.Periods.{Period, period, period_file}
 use Rattle.records.specs.Held.{records_of}
 use Rattle.records.specs.Within.{counts_of}
+use Rattle.std.specs.Prelude.{Some}
 use Rattle.records.specs.Numbers.{period_numbers, consumed}
 use Rattle.records.proofs.NumbersConsumed.{numbers_consumed, header_told}
 use Rattle.accounts.specs.Accepted.{Accepted, held}
@@ -44,5 +44,5 @@ module _ {file plants segments : List ℕ} (given : Accepted file plants segment
   accepted_consumed = numbers_consumed file accepted_read.2
 
   -- and its header tells how many records that period has
-  pub accepted_header : header_of file ≡ Tells (counts_of (held file))
+  pub accepted_header : header_of file ≡ Some (counts_of (held file))
   accepted_header = header_told file accepted_read.2

@@ -14,8 +14,7 @@ use borrow.Author.Tests.{lt-ltb, le-ltb}
 use Rattle.number.specs.Counting.{value_at}
 use Rattle.fields.specs.Lists.{in_turn}
 use Rattle.records.specs.declared.counts.Counts.{Counts}
-use Rattle.records.specs.declared.header.Header.{Header}
-use Rattle.records.specs.declared.header.Header.TheVariants.{Tells}
+use Rattle.std.specs.Prelude.{Option, Some}
 use Rattle.records.specs.Plants.{plant_fields, no_plant}
 use Rattle.records.specs.Segments.{segment_fields, no_segment}
 use Rattle.records.specs.Lines.{line_fields, no_line}
@@ -81,7 +80,7 @@ module _ {A : Type 0} (numbers : A → List ℕ) (fields : ℕ) (sized : (one : 
 pub after_all :
     (counts : Counts) (place : ℕ) →
     header_fields + plant_fields * counts.plants + segment_fields * counts.segments + line_fields * counts.lines ≤ place →
-    field_at (Tells counts) place ≡ Field.After
+    field_at (Some counts) place ≡ Field.After
 unfolding field_at
 after_all counts place h =
     let of_header : header_fields ≤ place = omega arith in
@@ -93,8 +92,8 @@ after_all counts place h =
 -- ---- the number at a place of a period is that of the field that is named there
 module _ (period : Period) where
   -- what the header of its file tells
-  abbrev tells : Header
-  tells = Tells (counts_of period)
+  abbrev tells : Option Counts
+  tells = Some (counts_of period)
 
   -- the value of the one field or the other
   of_either : (t : Bool) (a b : Field) → stands_in (cond t a b) period ≡ cond t (stands_in a period) (stands_in b period)

@@ -4,8 +4,9 @@ use mathlib.Core.Path.{◌≡◌, sym, ap, ◌∙◌}
 use mathlib.Core.List.{List}
 use denote.Ref.{Bor}
 use Rattle.number.specs.declared.Report.{Report}
+use Rattle.std.specs.Prelude.{Option}
+use Rattle.records.specs.declared.counts.Counts.{Counts}
 use Rattle.number.proofs.Outcome.{finds_once, one_reading}
-use Rattle.records.specs.declared.header.Header.{Header}
 use Rattle.inspector.specs.declared.Inspector.{Inspector}
 use Rattle.inspector.specs.declared.step.Step.{Step}
 use Rattle.inspector.specs.declared.field.Field.{Field}
@@ -19,7 +20,7 @@ one_start file r s p q = p ∙ sym q
 pub one_place : (reader : Inspector) (r s : ℕ) → InspectorAtPromise reader r → InspectorAtPromise reader s → r ≡ s
 one_place reader r s p q = p ∙ sym q
 
-pub one_field : (header : Header) (place : ℕ) (r s : Field) → FieldAtPromise header place r → FieldAtPromise header place s → r ≡ s
+pub one_field : (header : Option Counts) (place : ℕ) (r s : Field) → FieldAtPromise header place r → FieldAtPromise header place s → r ≡ s
 one_field header place r s p q = p ∙ sym q
 
 -- `Inspector::step`: one report, and one reader afterwards

@@ -14,8 +14,7 @@ use Rattle.fields.specs.Files.{ended}
 use Rattle.fields.proofs.Along.{Came, came, not_allowed, has_fault, Ended, bytes_left, not_read, comes_to, at_end}
 use Rattle.fields.proofs.EndOfFile.{after_read, after_refused}
 use Rattle.records.specs.declared.counts.Counts.{Counts}
-use Rattle.records.specs.declared.header.Header.{Header}
-use Rattle.records.specs.declared.header.Header.TheVariants.{Tells, TellsNothing}
+use Rattle.std.specs.Prelude.{Option, Some, None}
 use Rattle.records.specs.Plants.{plant_fields}
 use Rattle.records.specs.Segments.{segment_fields}
 use Rattle.records.specs.Lines.{line_fields}
@@ -27,17 +26,17 @@ use Rattle.inspector.specs.FieldsTold.{refusal_due}
 use Rattle.inspector.proofs.FieldsNamed.{after_all}
 
 -- ---- what is due at a place, by what the header tells
-abbrev due : Header → ℕ → ℕ
+abbrev due : Option Counts → ℕ → ℕ
 due told place = refusal_due (field_at told place)
 
 -- the refusals of the header's own fields, whatever it tells
-header_due : (told : Header) {place : ℕ} {reason : Reason} → HeaderField place reason → due told place ≡ number_of reason
+header_due : (told : Option Counts) {place : ℕ} {reason : Reason} → HeaderField place reason → due told place ≡ number_of reason
 unfolding field_at
 header_due told edition_field = refl
 header_due told (count_field its) = simp lt-ltb
 
 -- and those of the records that it announces
-records_due : (counts : Counts) {place : ℕ} {reason : Reason} → RecordField counts place reason → due (Tells counts) place ≡ number_of reason
+records_due : (counts : Counts) {place : ℕ} {reason : Reason} → RecordField counts place reason → due (Some counts) place ≡ number_of reason
 unfolding field_at
 records_due counts (plant_field {place} its) =
     let of_header : header_fields ≤ place = omega (arith, its) in
@@ -57,7 +56,7 @@ records_due counts (line_field {place} its) =
 
 -- so the refusal of a field at which reading ended is due there, if it is not the fault of a number
 field_due :
-    {file : List ℕ} {Field : (place : ℕ) → Reason → Type 0} {A : Type 0} {P : A → (place at : ℕ) → Type 0} {notice : Notice} (told : Header) →
+    {file : List ℕ} {Field : (place : ℕ) → Reason → Type 0} {A : Type 0} {P : A → (place at : ℕ) → Type 0} {notice : Notice} (told : Option Counts) →
     ((reason : Reason) → Field notice.place reason → due told notice.place ≡ number_of reason) → number_of WrongEdition ≤ notice.number →
     Came file (Placed Field) P (refused notice) → due told notice.place ≡ notice.number
 field_due told its large (not_allowed {reason} (field, room)) = its reason field
@@ -66,9 +65,9 @@ field_due told its large (has_fault small) = absurd (omega arith)
 -- and behind the records the refusal for bytes that follow is due
 records_end_due :
     {file : List ℕ} {notice : Notice} (counts : Counts) → number_of WrongEdition ≤ notice.number →
-    Ended file (Placed (RecordField counts)) (RecordsRead counts) (refused notice) → due (Tells counts) notice.place ≡ notice.number
+    Ended file (Placed (RecordField counts)) (RecordsRead counts) (refused notice) → due (Some counts) notice.place ≡ notice.number
 records_end_due counts large (bytes_left (its, (here, last))) = rw here (ap refusal_due (after_all counts (lines_end counts) (omega arith)))
-records_end_due counts large (not_read its) = field_due (Tells counts) (λ reason. records_due counts) large its
+records_end_due counts large (not_read its) = field_due (Some counts) (λ reason. records_due counts) large its
 
 -- ---- so the refusal of a file is that of the field that is named at its place
 pub refused_field :
@@ -86,4 +85,4 @@ refused_field {notice} file e large = by_header (reads header file 0 0) refl (co
     by_header (refused found) is its =
         let same = sym (ap (ended file) (after_refused header records file 0 0 found is)) ∙ e in
         let found_is : found ≡ notice = cc in
-        field_due TellsNothing (λ reason. header_due TellsNothing) large (rw found_is at its)
+        field_due None (λ reason. header_due None) large (rw found_is at its)

@@ -3,17 +3,14 @@ ghost use Rattle.std.specs.Prelude.{◌≡◌};
 ghost use Rattle.number.specs.Finding.{finds};
 ghost use Rattle.number.specs.Counting.{end_of};
 
-use number::{Number, Report};
+use number::Report;
 
 // The byte behind the number that was found; after a fault the same byte.
 pub(crate) fn after(report: Report, at: usize) -> usize
     ensures { result ≡ end_of at (finds report.number) }
 {
-    let found = report.number;
-    match found {
-        Number::Value { value: _, next } => next,
-        Number::Ends => at,
-        Number::NotShortest => at,
-        Number::TooLarge => at,
+    match report.number {
+        Ok(number) => number.next,
+        Err(_fault) => at,
     }
 }

@@ -1,7 +1,7 @@
 // Which field of which record a number of the file is, by its place and by what the header tells (rule 11.5).
 ghost use Rattle.inspector.specs.FieldsAt.{FieldAtPromise};
 
-use records::{Header, Line, Plant, Segment};
+use records::{Counts, Header, Line, Plant, Segment};
 
 // A field of the file. The fields of a record count from 0 in file order, the records of a kind from 1.
 #[derive(Drop)]
@@ -20,14 +20,15 @@ pub enum Field {
     Untold,
 }
 
-// The field at a place (rule 11.5).
-pub fn field_at(header: Header, place: u64) -> Field
+// The field at a place, by what the header tells (rule 11.5). Each kind has a block of its own: they differ in the variant, so a step that they
+// shared would hand back what has to be taken apart again.
+pub fn field_at(header: Option<Counts>, place: u64) -> Field
     ensures { FieldAtPromise header place result }
 {
     if place < Header::FIELDS as u64 {
         return Field::Header { field: place };
     }
-    let Header::Tells(counts) = header else {
+    let Some(counts) = header else {
         return Field::Untold;
     };
     let index = place - Header::FIELDS as u64;

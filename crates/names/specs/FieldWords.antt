@@ -39,6 +39,15 @@ segment_text number field = ascii " segment" ++ spaced number ++ segment_words f
 abbrev pub line_text : (number field : ℕ) → List ℕ
 line_text number field = ascii " line" ++ spaced number ++ line_words field
 
+-- The words for a field, without its record's name and number.
+abbrev pub field_words : Field → List ℕ
+field_words (Header field) = header_words field
+field_words (Plant number field) = plant_words field
+field_words (Segment number field) = segment_words field
+field_words (Line number field) = line_words field
+field_words After = ascii " after the last number"
+field_words Untold = ascii " not told by the header"
+
 -- Which field of which record it is (rule 11.5).
 abbrev pub field_text : Field → List ℕ
 field_text (Header field) = header_words field

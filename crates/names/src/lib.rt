@@ -1,85 +1,60 @@
-// Puts the words for a field into a lent buffer (rule 11.5).
+// Puts the words for a field into a text (rule 11.5).
 #![tactic(auto)]
 
-ghost use Rattle.std.specs.Prelude.{◌++◌};
+ghost use Rattle.std.specs.Prelude.{◌++◌, ◌≡◌};
 ghost use Rattle.output.specs.Lines.{spaced};
 ghost use Rattle.output.specs.Put.{Put};
-ghost use Rattle.names.specs.FieldWords.{header_words, plant_text, segment_text, line_text, field_text};
+ghost use Rattle.names.specs.FieldWords.{field_text, field_words};
 
 use inspector::Field;
-use output::{put_spaced, put_words};
+use output::Text;
 
 // The most bytes of a field's words, without its record's number.
 pub const MOST_FIELD_WORDS: usize = 24;
 
 // Puts which field of which record it is (rule 11.5).
-pub fn put_field(buffer: &mut [u8], at: usize, field: Field) -> usize
-    ensures { Put (field_text field) at buffer.old result buffer.new }
+pub fn put_field<const N: usize>(text: &mut Text<N>, field: Field)
+    ensures { Put (field_text field) text.old.end text.old.room text.new.end text.new.room }
 {
+    let words = words(&field);
     match field {
-        Field::Header { field } => put_header_field(buffer, at, field),
-        Field::Plant { number, field } => put_plant_field(buffer, at, number, field),
-        Field::Segment { number, field } => put_segment_field(buffer, at, number, field),
-        Field::Line { number, field } => put_line_field(buffer, at, number, field),
-        Field::After => put_words(buffer, at, b" after the last number"),
-        Field::Untold => put_words(buffer, at, b" not told by the header"),
+        Field::Plant { number, .. } => put_record(text, b" plant", number, words),
+        Field::Segment { number, .. } => put_record(text, b" segment", number, words),
+        Field::Line { number, .. } => put_record(text, b" line", number, words),
+        Field::Header { .. } | Field::After | Field::Untold => text.put_words(words),
     }
 }
 
-// Puts the words for a field of the header.
-fn put_header_field(buffer: &mut [u8], at: usize, field: u64) -> usize
-    ensures { Put (header_words field) at buffer.old result buffer.new }
+// Puts the words for a field of a record behind the record's name and number.
+fn put_record<const N: usize>(text: &mut Text<N>, name: &[u8], number: u64, words: &[u8])
+    ensures { Put (name.now ++ spaced number ++ words.now) text.old.end text.old.room text.new.end text.new.room }
 {
-    match field {
-        0 => put_words(buffer, at, b" edition"),
-        1 => put_words(buffer, at, b" plants"),
-        2 => put_words(buffer, at, b" segments"),
-        _ => put_words(buffer, at, b" lines"),
-    }
+    text.put_words(name);
+    text.put_spaced(number);
+    text.put_words(words);
 }
 
-// Puts the words for a field of the plant with this number.
-fn put_plant_field(buffer: &mut [u8], at: usize, number: u64, field: u64) -> usize
-    ensures { Put (plant_text number field) at buffer.old result buffer.new }
+// The words for a field, without its record's name and number; the last of a record's are for all fields that are left.
+fn words(field: &Field) -> &'static [u8]
+    ensures { result.now ≡ field_words field.now }
 {
-    let at = put_record(buffer, at, b" plant", number);
     match field {
-        0 => put_words(buffer, at, b" exported"),
-        1 => put_words(buffer, at, b" first segment"),
-        _ => put_words(buffer, at, b" origin fraction"),
+        Field::Header { field: 0 } => b" edition",
+        Field::Header { field: 1 } => b" plants",
+        Field::Header { field: 2 } => b" segments",
+        Field::Header { .. } => b" lines",
+        Field::Plant { field: 0, .. } => b" exported",
+        Field::Plant { field: 1, .. } => b" first segment",
+        Field::Plant { .. } => b" origin fraction",
+        Field::Segment { field: 0, .. } => b" kind",
+        Field::Segment { field: 1, .. } => b" metered outflow",
+        Field::Segment { .. } => b" next segment",
+        Field::Line { field: 0, .. } => b" owner kind",
+        Field::Line { field: 1, .. } => b" owner number",
+        Field::Line { field: 2, .. } => b" class",
+        Field::Line { field: 3, .. } => b" quantity",
+        Field::Line { .. } => b" factor",
+        Field::After => b" after the last number",
+        Field::Untold => b" not told by the header",
     }
-}
-
-// Puts the words for a field of the segment with this number.
-fn put_segment_field(buffer: &mut [u8], at: usize, number: u64, field: u64) -> usize
-    ensures { Put (segment_text number field) at buffer.old result buffer.new }
-{
-    let at = put_record(buffer, at, b" segment", number);
-    match field {
-        0 => put_words(buffer, at, b" kind"),
-        1 => put_words(buffer, at, b" metered outflow"),
-        _ => put_words(buffer, at, b" next segment"),
-    }
-}
-
-// Puts the words for a field of the line with this number.
-fn put_line_field(buffer: &mut [u8], at: usize, number: u64, field: u64) -> usize
-    ensures { Put (line_text number field) at buffer.old result buffer.new }
-{
-    let at = put_record(buffer, at, b" line", number);
-    match field {
-        0 => put_words(buffer, at, b" owner kind"),
-        1 => put_words(buffer, at, b" owner number"),
-        2 => put_words(buffer, at, b" class"),
-        3 => put_words(buffer, at, b" quantity"),
-        _ => put_words(buffer, at, b" factor"),
-    }
-}
-
-// Puts a record's name and its number.
-fn put_record(buffer: &mut [u8], at: usize, name: &[u8], number: u64) -> usize
-    ensures { Put (name.now ++ spaced number) at buffer.old result buffer.new }
-{
-    let at = put_words(buffer, at, name);
-    put_spaced(buffer, at, number)
 }

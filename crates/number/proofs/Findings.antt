@@ -14,7 +14,11 @@ use Rattle.number.proofs.Forming.{FormedAs, formed_as}
 use Rattle.number.proofs.Forming.FormedAs.{is_padded, is_large, is_number}
 use Rattle.number.proofs.FrontGroups.{Fronts, fronts, gathers}
 
--- ---- what is found at a byte, from what is gathered there
+-- ---- what is found at the front of some bytes, and at a byte, from what is gathered there
+pub front_is : (bytes : List ℕ) (g : Gathering) → gather most_groups bytes ≡ g → reading bytes ≡ found_of g
+unfolding reading
+front_is bytes g e = ap found_of e
+
 pub gathered_is : (file : List ℕ) (at : ℕ) (g : Gathering) → gather most_groups (drop at file) ≡ g → read_at file at ≡ from at (found_of g)
 unfolding read_at reading
 gathered_is file at g e = ap (λ (x : Gathering). from at (found_of x)) e

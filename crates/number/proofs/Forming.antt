@@ -1,20 +1,20 @@
 -- Laws of forming a number from its groups: which of the tests decides.
 use Prim.Native.Nat.{ℕ, suc, ◌-◌, ◌≤◌, ◌<◌}
-use mathlib.Core.Path.{◌≡◌, refl, sym, ap, ap₂, ◌∙◌}
-use mathlib.Core.List.{List, [], ◌∷◌, ◌++◌}
+use mathlib.Core.Path.{◌≡◌, refl, sym, ap, ◌∙◌}
+use mathlib.Core.List.{List, [], ◌∷◌}
 use mathlib.Core.Bool.{Bool, true, false, and-false}
+use mathlib.Core.Logic.{◌⊎◌, ⊎_elim}
 use native.Mathlib.Numerals.{sub-one}
 use native.Mathlib.Decide.{dec_le}
 use native.Mathlib.Omega.{arith}
-use lib.ListN.{length, get_or, take, replicate, take-append-drop}
+use lib.ListN.{length, get_or, take}
 use lib.Seq.{get_or-take, length-take-le}
 use lib.Dec.{ltb}
 use borrow.Author.Tests.{lt-ltb, le-ltb, le-leb, lt-leb, eq-eqb, ne_eqb}
-use Rattle.number.specs.Groups.{value, padded, most_groups, largest}
-use Rattle.number.specs.Inside.{AreGroups, Counted}
+use Rattle.number.specs.Groups.{value, padded, largest}
+use Rattle.number.specs.Inside.{AreGroups, Kept}
 use Rattle.number.specs.Reading.{Found, formed, not_shortest, too_large}
 use Rattle.number.specs.Reading.Found.{number, fault}
-use Rattle.number.proofs.Values.{value_zeros, groups_zeros}
 
 -- the last of some groups
 abbrev pub last : List ℕ → ℕ
@@ -47,12 +47,12 @@ module _ (gs : List ℕ) where
   formed_padded p = rw p
 
   -- then the value
-  formed_large : padded gs ≡ false → largest < value gs → formed gs ≡ fault too_large
+  pub formed_large : padded gs ≡ false → largest < value gs → formed gs ≡ fault too_large
   unfolding formed
   formed_large p h = rw (p, lt-leb (value gs) largest h)
 
   -- groups that pass both tests form a number
-  formed_number : padded gs ≡ false → value gs ≤ largest → formed gs ≡ number (value gs) (length gs)
+  pub formed_number : padded gs ≡ false → value gs ≤ largest → formed gs ≡ number (value gs) (length gs)
   unfolding formed
   formed_number p h = rw (p, le-leb (value gs) largest h)
 
@@ -74,46 +74,27 @@ formed_as groups = by_form (padded groups) refl
     by_form true p = rw (formed_padded groups p) (is_padded p)
     by_form false p = by_value p (dec_le (value groups) largest)
 
--- ---- the groups that came, in an array whose rest is zero
-module _ (count group : ℕ) (groups : List ℕ) (c : Counted count group groups) where
-  -- as many came as count says
-  counted_length : length (take count groups) ≡ count
-  counted_length = length-take-le count groups (omega arith)
+-- ---- groups as the code keeps them
+module _ {all : List ℕ} {count last_kept : ℕ} {gs : List ℕ} (k : Kept all count last_kept) (is : take count all ≡ gs) where
+  -- they are groups, as many as count says
+  pub kept_groups : AreGroups gs
+  kept_groups = rw is at k.are_groups
 
-  -- and the last of them is group
-  last_is : 0 < count → last (take count groups) ≡ group
-  last_is some = rw (counted_length, get_or-take count groups (count - 1) 0 (omega arith)) c.at_last
+  pub kept_length : length gs ≡ count
+  kept_length = sym (ap length is) ∙ length-take-le count all (omega (arith, k.room, k.within))
 
-  -- behind them the array is zero
-  all_is : groups ≡ take count groups ++ replicate (most_groups - count) 0
-  all_is = sym (take-append-drop count groups) ∙ ap (λ (rest : List ℕ). take count groups ++ rest) c.came.zeros
+  -- each is the one at its index in the array
+  pub kept_at : (i : ℕ) → i < count → get_or all i 0 ≡ get_or gs i 0
+  kept_at i below = sym (get_or-take count all i 0 below) ∙ ap (λ (l : List ℕ). get_or l i 0) is
 
-  -- so the whole array is groups
-  pub all_groups : AreGroups (take count groups) → AreGroups groups
-  all_groups r = rw all_is (groups_zeros (most_groups - count) r)
-
-  -- and has their value
-  value_all : value groups ≡ value (take count groups)
-  value_all = ap value all_is ∙ value_zeros (take count groups) (most_groups - count)
+  -- the last is the one that is kept by itself
+  last_is : last gs ≡ last_kept
+  last_is = let some = k.some in rw kept_length (sym (kept_at (count - 1) (omega arith)) ∙ k.at_last)
 
   -- several that end in a zero group do not have the shortest form
-  pub zero_last : 1 < count → group ≡ 0 → formed (take count groups) ≡ fault not_shortest
-  zero_last several z =
-      formed_padded (take count groups) (padded_zero (take count groups) (rw counted_length several) (last_is (omega arith) ∙ z))
+  pub zero_last : 1 < count → last_kept ≡ 0 → formed gs ≡ fault not_shortest
+  zero_last several z = formed_padded gs (padded_zero gs (rw kept_length several) (last_is ∙ z))
 
-  -- one alone has it
-  pub single : count ≤ 1 → padded (take count groups) ≡ false
-  single h = padded_single (take count groups) (rw counted_length h)
-
-  -- and so have those that end in another
-  pub other_last : 0 < count → (group ≡ 0 → ⊥) → padded (take count groups) ≡ false
-  other_last some h = padded_other (take count groups) (λ z. h (sym (last_is some) ∙ z))
-
-  -- their value is over the largest
-  pub too_large_lem : padded (take count groups) ≡ false → largest < value groups → formed (take count groups) ≡ fault too_large
-  too_large_lem p h = formed_large (take count groups) p (rw value_all at h)
-
-  -- or they form a number
-  pub a_number : padded (take count groups) ≡ false → value groups ≤ largest → formed (take count groups) ≡ number (value groups) count
-  a_number p h =
-      formed_number (take count groups) p (rw value_all at h) ∙ ap₂ number (sym value_all) counted_length
+  -- several that end in another have it, and so has one alone
+  pub shortest : (1 < count × (last_kept ≡ 0 → ⊥)) ⊎ (count ≤ 1) → padded gs ≡ false
+  shortest = ⊎_elim (λ (several, other). padded_other gs (λ z. other (sym last_is ∙ z))) (λ one. padded_single gs (rw kept_length one))

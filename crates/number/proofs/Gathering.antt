@@ -6,13 +6,11 @@ use mathlib.Core.Bool.{cond}
 use mathlib.Core.Logic.{◌⊎◌, inl, inr, ⊎_elim}
 use native.Mathlib.Decide.{dec_le}
 use native.Mathlib.Omega.{arith}
-use native.Mathlib.Numerals.{sub-one}
-use lib.ListN.{length, get_or, take, drop, set, replicate, drop_of_length-le, length-set}
-use lib.Seq.{drop-cons, take-suc-set, drop-set-lt, get_or-set_same, set-set}
+use lib.ListN.{length, get_or, take, drop, set, drop_of_length-le, length-set}
+use lib.Seq.{drop-cons, take-suc-set}
 use borrow.Author.Tests.{le-leb, lt-leb}
 use Rattle.number.specs.Groups.{Gathering, before, gather, follows, group, most_groups, radix}
 use Rattle.number.specs.Groups.Gathering.{whole, cut, long}
-use Rattle.number.specs.Inside.{Came, Counted}
 
 -- ---- one group
 -- a byte that says another follows: its group, before the rest
@@ -78,13 +76,14 @@ prepend_end r same (g ∷ gs) = ap (before g) (prepend_end r same gs) ∙ same g
 
 -- ---- the loop: the first n groups have come, each saying that another follows
 pub record Gathers (bytes groups : List ℕ) (n : ℕ) : Type 0 where
-  pub came : Came n groups
+  pub within : n ≤ most_groups
+  pub room : length groups ≡ most_groups
   pub whole_is : gather most_groups bytes ≡ prepend (take n groups) (gather (most_groups - n) (drop n bytes))
 
 -- before the first turn none has come
-pub start : (bytes groups : List ℕ) → groups ≡ replicate most_groups 0 → Gathers bytes groups 0
+pub start : (bytes groups : List ℕ) → length groups ≡ most_groups → Gathers bytes groups 0
 unfolding prepend
-start bytes groups e = record { came = record { within = omega arith; room = ap length e; zeros = e }; whole_is = refl }
+start bytes groups room = record { within = omega arith; room = room; whole_is = refl }
 
 module _ (bytes groups : List ℕ) (n : ℕ) (g : Gathers bytes groups n) (below : n < most_groups) where
   -- at least one group more may come
@@ -101,31 +100,11 @@ module _ (bytes groups : List ℕ) (n : ℕ) (g : Gathers bytes groups n) (below
   module _ (more_bytes : n < length bytes) where
     -- the array has a place for the next group
     here : n < length groups
-    here = rw g.came.room below
+    here = rw g.room below
 
     -- the next byte
     abbrev pub byte : ℕ
     byte = get_or bytes n 0
-
-    -- behind that place the array is zero
-    behind : drop (suc n) groups ≡ replicate (most_groups - suc n) 0
-    behind =
-        let front : get_or groups n 0 ∷ drop (suc n) groups ≡ 0 ∷ replicate (most_groups - suc n) 0 =
-        sym (drop-cons groups n 0 here) ∙ g.came.zeros ∙ rw left in
-        cc
-
-    -- a group is stored, and what lies behind it is still zero
-    stored_came : (x : ℕ) → Came (suc n) (set groups n x)
-    stored_came x =
-        record {
-          within = omega arith;
-          room = length-set groups n x ∙ g.came.room;
-          zeros = drop-set-lt (suc n) groups n x (omega arith) ∙ behind;
-        }
-
-    -- and it is the last that came
-    pub stored_counted : (x : ℕ) → Counted (suc n) x (set groups n x)
-    stored_counted x = record { came = stored_came x; at_last = rw (sub-one (suc n)) (get_or-set_same groups n x 0 here) }
 
     -- the byte says that none follows: the number is whole
     pub last_is : (x : ℕ) → x ≡ byte % radix → byte < radix → gather most_groups bytes ≡ whole (take (suc n) (set groups n x))
@@ -140,12 +119,12 @@ module _ (bytes groups : List ℕ) (n : ℕ) (g : Gathers bytes groups n) (below
         (prepend_whole (take n groups) (x ∷ [])
         ∙ ap whole (sym (take-suc-set groups n x here)))
 
-    -- what was stored before the group does not matter
-    pub turn : (x y : ℕ) → x ≡ byte % radix → radix ≤ byte → Gathers bytes (set (set groups n y) n x) (suc n)
-    turn x y e h =
-        rw (set-set groups n y x)
+    -- or that another does: one group more has come
+    pub turn : (x : ℕ) → x ≡ byte % radix → radix ≤ byte → Gathers bytes (set groups n x) (suc n)
+    turn x e h =
         record {
-          came = stored_came x;
+          within = omega arith;
+          room = length-set groups n x ∙ g.room;
           whole_is =
               g.whole_is
               ∙ rw (

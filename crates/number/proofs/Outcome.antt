@@ -4,8 +4,10 @@ use mathlib.Core.Path.{◌≡◌, refl, sym, ap, ap₂, ◌∙◌}
 use mathlib.Core.List.{List}
 use mathlib.Core.Bool.{cond}
 use lib.Dec.{eqb}
+use Rattle.std.specs.Prelude.{Result, Ok, Err}
 use Rattle.number.specs.declared.Number.{Number}
-use Rattle.number.specs.declared.Number.TheVariants.{Value, Ends, NotShortest, TooLarge}
+use Rattle.number.specs.declared.Fault.{Fault}
+use Rattle.number.specs.declared.Fault.TheVariants.{Ends, NotShortest, TooLarge}
 use Rattle.number.specs.declared.Report.{Report}
 use Rattle.number.specs.Reading.{Found, ends, not_shortest}
 use Rattle.number.specs.Reading.Found.{number, fault}
@@ -13,30 +15,30 @@ use Rattle.number.specs.Writing.{SizeOfPromise, WriteAtPromise}
 use Rattle.number.specs.Finding.{finds, ReadAtPromise, NumberRefusalPromise, BytesAtPromise}
 
 -- the answer that says it
-finding : Found → Number
-finding (number v n) = Value v n
-finding (fault k) = cond (eqb k ends) Ends (cond (eqb k not_shortest) NotShortest TooLarge)
+finding : Found → Result Number Fault
+finding (number v n) = Ok (record { value = v; next = n })
+finding (fault k) = Err (cond (eqb k ends) Ends (cond (eqb k not_shortest) NotShortest TooLarge))
 
 -- for what an answer says, it is that answer
-found_back : (r : Number) → finding (finds r) ≡ r
+found_back : (r : Result Number Fault) → finding (finds r) ≡ r
 unfolding finding
-found_back (Value v n) = refl
-found_back Ends = refl
-found_back NotShortest = refl
-found_back TooLarge = refl
+found_back (Ok n) = refl
+found_back (Err Ends) = refl
+found_back (Err NotShortest) = refl
+found_back (Err TooLarge) = refl
 
 -- so two answers that say the same are the same
-pub finds_once : (r s : Number) → finds r ≡ finds s → r ≡ s
+pub finds_once : (r s : Result Number Fault) → finds r ≡ finds s → r ≡ s
 finds_once r s e = sym (found_back r) ∙ ap finding e ∙ found_back s
 
 -- `read_at`: two reports that meet its promise, of one file at one byte, are the same
 pub one_reading : (file : List ℕ) (at : ℕ) (r s : Report) → ReadAtPromise file at r → ReadAtPromise file at s → r ≡ s
 one_reading file at r s p q =
-    ap₂ (λ (n : Number) (o : ℕ). record { number = n; offset = o })
+    ap₂ (λ (n : Result Number Fault) (o : ℕ). record { number = n; offset = o })
     (finds_once r.number s.number (p.number ∙ sym q.number)) (p.offset ∙ sym q.offset)
 
--- `Number::refusal`: its promise gives the result itself
-pub one_refusal : (found : Number) (r s : ℕ) → NumberRefusalPromise found r → NumberRefusalPromise found s → r ≡ s
+-- `Report::refusal`: its promise gives the result itself
+pub one_refusal : (found : Result Number Fault) (r s : ℕ) → NumberRefusalPromise found r → NumberRefusalPromise found s → r ≡ s
 one_refusal found r s p q = p ∙ sym q
 
 -- `bytes_at`: so does its promise

@@ -1,14 +1,21 @@
 -- Laws of the bytes that belong to a number: how many they are, counted on from one to the next; and that they are those from its first on.
 use Prim.Native.Nat.{ℕ, zero, suc, ◌+◌, ◌-◌, ◌≤◌, ◌<◌}
 use mathlib.Core.Path.{◌≡◌, refl, ap, ◌∙◌}
+use mathlib.Core.Logic.{⊎_elim}
 use mathlib.Core.Bool.{Bool, true, false, cond}
 use mathlib.Core.List.{List, [], ◌∷◌}
 use native.Mathlib.Omega.{arith}
-use lib.ListN.{length, get_or, take, drop, length-drop, drop_of_length-le}
-use lib.Seq.{drop-cons}
-use borrow.Author.Tests.{le-leb, lt-leb}
+use lib.ListN.{length, take, drop, length-drop}
+use lib.Dec.{ltb}
+use lib.Seq.{take_all}
+use Rattle.std.specs.Prelude.{min, position, Some, None, slice_range}
+use Rattle.std.proofs.lemmas.List.{take_min}
+use Rattle.std.specs.List.{position_or_len}
+use borrow.Author.Tests.{le-leb, lt-leb, le-ltb, lt-ltb, ltb-true, ltb-false}
 use Rattle.number.specs.Groups.{follows, own_bytes, most_groups, radix}
 use Rattle.number.specs.Reading.{bytes_at}
+use Rattle.number.specs.Inside.{is_last}
+use Rattle.number.proofs.Gathering.{last_or_more}
 
 -- they are the first bytes, as many as they are
 pub own_front : (k : ℕ) (bytes : List ℕ) → take (length (own_bytes k bytes)) bytes ≡ own_bytes k bytes
@@ -36,67 +43,53 @@ own_most (suc k) (b ∷ bytes) = by_byte (follows b) (own_most k bytes)
     by_byte true (few, inside) = (omega (arith, few), omega (arith, inside))
     by_byte false e = (omega arith, omega arith)
 
--- where no bytes are, there are none
-none_own : (k : ℕ) → length (own_bytes k []) ≡ 0
+-- ---- how many they are: up to the first byte after which none follows, or all that a number may have, or all that there are
+count_is : (k : ℕ) (bytes : List ℕ) → length (own_bytes k bytes) ≡ min (position_or_len is_last (take k bytes) + 1) (length (take k bytes))
 unfolding own_bytes
-none_own zero = refl
-none_own (suc k) = refl
+count_is zero bytes = omega arith
+count_is (suc k) [] = omega arith
+count_is (suc k) (b ∷ bytes) =
+    ⊎_elim
+    (λ last. rw (lt-leb radix b last, lt-ltb b radix last) (omega arith))
+    (λ more. rw (le-leb radix b more, le-ltb b radix more) (omega (arith, count_is k bytes)))
+    (last_or_more b)
 
--- one byte: no other follows it, or the others are counted on
-last_own : (k b : ℕ) (bytes : List ℕ) → b < radix → length (own_bytes (suc k) (b ∷ bytes)) ≡ 1
-unfolding own_bytes
-last_own k b bytes h = rw (lt-leb radix b h) refl
+module _ (file : List ℕ) (at : ℕ) where
+  -- the bytes that a number at a byte of the file may have
+  abbrev pub most : List ℕ
+  most = take most_groups (drop at file)
 
-more_own : (k b : ℕ) (bytes : List ℕ) → radix ≤ b → length (own_bytes (suc k) (b ∷ bytes)) ≡ suc (length (own_bytes k bytes))
-unfolding own_bytes
-more_own k b bytes h = rw (le-leb radix b h) refl
+  -- as the code takes them
+  pub most_taken : (bytes : List ℕ) (n : ℕ) → bytes ≡ slice_range file at (length file) → n ≡ min most_groups (length bytes) → take n bytes ≡ most
+  most_taken bytes n bytes_are n_is =
+      rw n_is (take_min most_groups bytes)
+      ∙ ap (take most_groups) (bytes_are ∙ take_all (length file - at) (drop at file) (omega (arith, length-drop at file)))
 
--- ---- the loop: n bytes are counted, each saying that another group follows
-pub record Counting (file : List ℕ) (at n : ℕ) : Type 0 where
-  pub few : n ≤ most_groups
-  pub inside : at + n ≤ length file
-  pub count_is : length (bytes_at file at) ≡ n + length (own_bytes (most_groups - n) (drop (at + n) file))
+  -- there is such a byte
+  pub up_to_last : (i : ℕ) → position is_last most ≡ Some i → length (bytes_at file at) ≡ i + 1
+  up_to_last i found = by_place (ltb (position_or_len is_last most) (length most)) refl found
+    where
+      by_place :
+          (t : Bool) → ltb (position_or_len is_last most) (length most) ≡ t → cond t (Some (position_or_len is_last most)) None ≡ Some i →
+          length (bytes_at file at) ≡ i + 1
+      by_place true inside found =
+          let i_is : position_or_len is_last most ≡ i = cc in
+          omega (arith, count_is most_groups (drop at file), ltb-true _ _ inside, i_is)
+      by_place false inside found = cc
 
--- before the first turn none is counted
-pub none_counted : (file : List ℕ) (at : ℕ) → at ≤ length file → Counting file at 0
-none_counted file at h =
-    let here : at + 0 ≡ at = omega arith in
-    record { few = omega arith; inside = omega arith; count_is = rw here (omega arith) }
+  -- there is none
+  pub all_of_them : position is_last most ≡ None → length (bytes_at file at) ≡ length most
+  all_of_them none = by_place (ltb (position_or_len is_last most) (length most)) refl none
+    where
+      by_place :
+          (t : Bool) → ltb (position_or_len is_last most) (length most) ≡ t → cond t (Some (position_or_len is_last most)) None ≡ None →
+          length (bytes_at file at) ≡ length most
+      by_place true inside none = cc
+      by_place false inside none = omega (arith, count_is most_groups (drop at file), ltb-false _ _ inside)
 
--- past the end there are none
-pub past_own : (file : List ℕ) (at : ℕ) → length file ≤ at → length (bytes_at file at) ≡ 0
-past_own file at h = rw (drop_of_length-le file h) (none_own most_groups)
-
-module _ {file : List ℕ} {at n : ℕ} (so_far : Counting file at n) where
-  -- all that a number may have, or all that there are
-  pub all_counted : most_groups ≤ n → length (bytes_at file at) ≡ n
-  unfolding own_bytes
-  all_counted all = let none : most_groups - n ≡ 0 = omega arith in so_far.count_is ∙ rw none (omega arith)
-
-  pub at_end : length file ≤ at + n → length (bytes_at file at) ≡ n
-  at_end all = so_far.count_is ∙ rw (drop_of_length-le file all, none_own (most_groups - n)) (omega arith)
-
-  -- one byte more
-  module _ (below : n < most_groups) (more : at + n < length file) where
-    left : most_groups - n ≡ suc (most_groups - (n + 1))
-    left = omega arith
-
-    on : suc (at + n) ≡ at + (n + 1)
-    on = omega arith
-
-    pub last_counted : get_or file (at + n) 0 < radix → length (bytes_at file at) ≡ n + 1
-    last_counted h =
-        so_far.count_is
-        ∙ rw (left, drop-cons file (at + n) 0 more, last_own (most_groups - (n + 1)) (get_or file (at + n) 0) (drop (suc (at + n)) file) h) refl
-
-    pub one_counted : radix ≤ get_or file (at + n) 0 → Counting file at (n + 1)
-    one_counted h = record {
-      few = omega arith;
-      inside = omega arith;
-      count_is =
-          so_far.count_is
-          ∙ rw (left, drop-cons file (at + n) 0 more, more_own (most_groups - (n + 1)) (get_or file (at + n) 0) (drop (suc (at + n)) file) h, on) (omega arith);
-    }
+  -- past the end there are none
+  pub past_own : length file ≤ at → length (bytes_at file at) ≡ 0
+  past_own h = omega (arith, (own_most most_groups (drop at file)).1, length-drop at file)
 
 -- ---- where they are in the file
 -- if there are some, they lie within it

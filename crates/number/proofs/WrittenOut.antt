@@ -4,7 +4,7 @@ use mathlib.Core.Path.{◌≡◌, refl, sym, ap, ◌∙◌}
 use mathlib.Core.Bool.{Bool, true, false, cond}
 use mathlib.Core.List.{List, []}
 use native.Mathlib.Nat.{zero-add, add-zero}
-use native.Mathlib.Decide.{dec_le}
+use native.Mathlib.Decide.{dec_le, dec_lt}
 use native.Mathlib.Omega.{arith}
 use lib.ListN.{length, set, length-set}
 use lib.Seq.{sets}
@@ -54,6 +54,14 @@ all_counted {value} {rest} {n} so_far all =
     let none : most_groups - n ≡ 0 = omega (arith, all) in
     let empty : length (writing (most_groups - n) rest) ≡ 0 = rw none refl in
     omega (arith, empty, so_far.comes_to)
+
+-- only one more is allowed, so it is the last
+pub all_but_one : {value rest n : ℕ} → Counted value rest n → n < most_groups → most_groups ≤ n + 1 → n + 1 ≡ length (written value)
+all_but_one {value} {rest} {n} so_far more all = by_size (dec_lt rest radix)
+  where
+    by_size : Dec (rest < radix) → n + 1 ≡ length (written value)
+    by_size (yes small) = last_counted so_far more small
+    by_size (no large) = all_counted (another_counted so_far more (omega arith)) all
 
 -- ---- the bytes themselves: n groups stand in the buffer, and the rest is still to be written
 pub record WrittenOut (before : List ℕ) (at value : ℕ) (buffer : List ℕ) (rest n : ℕ) : Type 0 where

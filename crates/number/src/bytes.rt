@@ -1,5 +1,7 @@
 // The bytes that belong to a number, or to its fault (rule 1.8).
+ghost use Rattle.std.specs.Prelude.{◌≡◌, position};
 ghost use Rattle.number.specs.Finding.{BytesAtPromise};
+ghost use Rattle.number.specs.Inside.{is_last};
 
 use crate::Number;
 use crate::groups::RADIX;
@@ -8,20 +10,19 @@ use crate::groups::RADIX;
 pub fn bytes_at(file: &[u8], at: usize) -> usize
     ensures { BytesAtPromise file.now at result }
 {
-    if file.len() <= at {
+    let Some(bytes) = file.get(at..) else {
         return 0;
+    };
+    let most = &bytes[..Number::GROUPS.min(bytes.len())];
+    match last_in(most) {
+        Some(last) => last + 1,
+        None => most.len(),
     }
-    let left = file.len() - at;
-    let mut n = 0;
-    while n < Number::GROUPS {
-        if left <= n {
-            return n;
-        }
-        let byte = file[at + n] as u64;
-        n += 1;
-        if byte < RADIX {
-            return n;
-        }
-    }
-    n
+}
+
+// The index of the first byte after which none follows (rule 1.1).
+fn last_in(bytes: &[u8]) -> Option<usize>
+    ensures { result ≡ position is_last bytes.now }
+{
+    bytes.iter().position(|byte| u64::from(*byte) < RADIX)
 }

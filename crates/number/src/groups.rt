@@ -1,89 +1,88 @@
 // The groups of one number: first all are gathered into an array, then the number is formed from them (rules 1.1 to 1.5).
-ghost use Rattle.std.specs.Prelude.{◌≡◌, ◌+◌, ◌^◌, ◌<◌, take, replicate};
-ghost use Rattle.number.specs.Groups.{gather as groups_gather, value, most_groups};
+ghost use Rattle.std.specs.Prelude.{◌≡◌, ◌+◌, ◌^◌, ◌<◌, List, ℕ, length, take};
+ghost use Rattle.number.specs.Groups.{value};
 ghost use Rattle.number.specs.Reading.{from, formed};
 ghost use Rattle.number.specs.Finding.{finds};
-ghost use Rattle.number.specs.Inside.{AreGroups, Came, Counted, gathered, counted};
+ghost use Rattle.number.specs.Inside.{Kept, Gathered};
 
-use crate::Number;
+use crate::{Fault, Number};
+use std::marker::Model;
 
 // A group has seven bits: a byte of 128 or more says that another group follows (rule 1.1).
 pub(crate) const RADIX: u64 = 128;
 
-// How the groups of a number ended.
-#[derive(Clone, Copy)]
-pub(crate) enum Ending {
-    // The last group came: how many groups there are, and that last one.
-    Last { count: usize, group: u64 },
-    // The bytes end before the last group.
-    Cut,
-    // All the groups that a number may have say that another follows.
-    More,
+// The groups of a number: the first `count` of the array, of which there is at least one.
+#[derive(Drop)]
+pub(crate) struct Groups {
+    all: [u64; Number::GROUPS],
+    count: usize,
+    // The last of them. Kept by itself, it needs no index, and the compiler has the array in registers (docs/PERFORMANCE.md).
+    last: u64,
 }
 
-// Gathers the groups at the front of the bytes, up to the first after which none follows; the rest of the array stays zero (rule 1.1).
-pub(crate) fn gather(bytes: &[u8], groups: &mut [u64; Number::GROUPS]) -> Ending
-    requires { groups.old ≡ replicate most_groups 0 }
-    ensures groups_after { gathered result groups.new ≡ groups_gather most_groups bytes.now }
-    ensures counted { counted result groups.new }
-{
-    let mut n = 0;
-    while n < Number::GROUPS {
-        if bytes.len() <= n {
-            return Ending::Cut;
-        }
-        let byte = bytes[n] as u64;
-        groups[n] = byte;
-        if byte < RADIX {
-            return Ending::Last {
-                count: n + 1,
-                group: byte,
+impl Model for Groups {
+    ghost Value = { List ℕ };
+
+    ghost view = { λ g. take g.count g.all };
+
+    ghost invariant = { λ g. Kept g.all g.count g.last };
+}
+
+impl Groups {
+    // Gathers the groups at the front of the bytes, up to the first after which none follows (rule 1.1); or the fault that is there instead.
+    pub(crate) fn gather(bytes: &[u8]) -> Result<Self, Fault>
+        ensures { Gathered bytes.now result }
+    {
+        let mut all = [0; Number::GROUPS];
+        for (n, group) in all.iter_mut().enumerate() {
+            let Some(byte) = bytes.get(n) else {
+                return Err(Fault::Ends);
             };
+            let byte = u64::from(*byte);
+            *group = byte;
+            if byte < RADIX {
+                return Ok(Groups {
+                    all,
+                    count: n + 1,
+                    last: byte,
+                });
+            }
+            *group = byte - RADIX;
         }
-        groups[n] = byte - RADIX;
-        n += 1;
+        Err(Fault::TooLarge)
     }
-    Ending::More
-}
 
-// Forms the number that began at a byte from its groups, of which the last is group: first the form, then the size (rules 1.3 to 1.5).
-pub(crate) fn form(groups: &[u64; Number::GROUPS], count: usize, group: u64, at: usize) -> Number
-    requires counted { Counted count group groups.now }
-    requires are_groups { AreGroups (take count groups.now) }
-    requires count_bound { at + count < 2 ^ 64 }
-    ensures { finds result ≡ from at (formed (take count groups.now)) }
-{
-    if 1 < count {
-        if group == 0 {
-            return Number::NotShortest;
+    // Forms the number that began at a byte: first the form is tested, then the size (rules 1.3 to 1.5).
+    pub(crate) fn form(self, at: usize) -> Result<Number, Fault>
+        requires { at + length self < 2 ^ 64 }
+        ensures { finds result ≡ from at (formed self) }
+    {
+        if 1 < self.count && self.last == 0 {
+            return Err(Fault::NotShortest);
         }
+        let value = self.value();
+        if Number::LARGEST < value {
+            return Err(Fault::TooLarge);
+        }
+        Ok(Number {
+            value,
+            next: at + self.count,
+        })
     }
-    let value = value_of(groups, count);
-    if Number::LARGEST < value {
-        return Number::TooLarge;
-    }
-    Number::Value {
-        value,
-        next: at + count,
-    }
-}
 
-// The value of the groups, of which the first count came (rule 1.2). The others are zero and add nothing, so they are left out.
-fn value_of(groups: &[u64; Number::GROUPS], count: usize) -> u64
-    requires came { Came count groups.now }
-    requires are_groups { AreGroups groups.now }
-    ensures { result ≡ value groups.now }
-{
-    let mut value = 0;
-    let mut weight = 1;
-    let mut i = 0;
-    while i < Number::GROUPS {
-        value += groups[i] * weight;
-        i += 1;
-        if count <= i {
-            return value;
+    // The value of the groups (rule 1.2).
+    fn value(&self) -> u64
+        ensures { result ≡ value self.now }
+    {
+        let mut value = 0;
+        let mut weight = 1;
+        for (i, group) in self.all.iter().enumerate() {
+            value += group * weight;
+            if self.count <= i + 1 {
+                break;
+            }
+            weight *= RADIX;
         }
-        weight *= RADIX;
+        value
     }
-    value
 }

@@ -13,14 +13,26 @@ ghost use Rattle.number.specs.Reading.{read_at};
 ghost use Rattle.number.specs.Finding.{finds, NumberRefusalPromise, ReadAtPromise};
 
 pub use crate::bytes::bytes_at;
-use crate::groups::{Ending, form, gather};
+use crate::groups::Groups;
 pub use crate::shortest::{size_of, write_at};
 
-// What is at a byte: a number, or one of three faults (rule 1.5).
+// A number that is there: its value, and the first byte behind it (rules 1.1 to 1.4).
 #[derive(Clone, Copy)]
-pub enum Number {
-    // The value, and the first byte behind the number.
-    Value { value: u64, next: usize },
+pub struct Number {
+    pub value: u64,
+    pub next: usize,
+}
+
+impl Number {
+    // The most groups that a number has (rule 1.4).
+    pub const GROUPS: usize = 5;
+    // The largest value of a number (rule 1.4).
+    pub const LARGEST: u64 = 4_000_000_000;
+}
+
+// Why there is no number: the first of the three faults that holds (rule 1.5).
+#[derive(Clone, Copy)]
+pub enum Fault {
     // Fault 1: the bytes end before the number does.
     Ends,
     // Fault 2: the number could be written shorter.
@@ -29,30 +41,25 @@ pub enum Number {
     TooLarge,
 }
 
-impl Number {
-    // The most groups that a number has (rule 1.4).
-    pub const GROUPS: usize = 5;
-    // The largest value of a number (rule 1.4).
-    pub const LARGEST: u64 = 4_000_000_000;
-
-    // The number of refusal of a fault, and 0 for a value (rule 8.1).
-    pub fn refusal(self) -> u32
-        ensures { NumberRefusalPromise self result }
-    {
-        match self {
-            Number::Value { value: _, next: _ } => 0,
-            Number::Ends => 1,
-            Number::NotShortest => 2,
-            Number::TooLarge => 3,
-        }
-    }
-}
-
 // What number reading reports: the number or its fault, and the offset of its first byte (rules 1.6 and 1.7).
 #[derive(Clone, Copy)]
 pub struct Report {
-    pub number: Number,
+    pub number: Result<Number, Fault>,
     pub offset: usize,
+}
+
+impl Report {
+    // The number of refusal of a fault, and 0 for a value (rule 8.1).
+    pub fn refusal(self) -> u32
+        ensures { NumberRefusalPromise self.number result }
+    {
+        match self.number {
+            Ok(_) => 0,
+            Err(Fault::Ends) => 1,
+            Err(Fault::NotShortest) => 2,
+            Err(Fault::TooLarge) => 3,
+        }
+    }
 }
 
 // What is at a byte of the file, with its offset (rules 1.1 to 1.7). Any byte may be asked for: past the end it is fault 1.
@@ -61,7 +68,7 @@ pub fn read_at(file: &[u8], at: usize) -> Report
 {
     if file.len() <= at {
         return Report {
-            number: Number::Ends,
+            number: Err(Fault::Ends),
             offset: file.len(),
         };
     }
@@ -72,14 +79,9 @@ pub fn read_at(file: &[u8], at: usize) -> Report
 }
 
 // The number, or its fault, at a byte that is there (rules 1.1 to 1.6).
-fn number_at(file: &[u8], at: usize) -> Number
+fn number_at(file: &[u8], at: usize) -> Result<Number, Fault>
     requires { at < length file.now }
     ensures { finds result ≡ read_at file.now at }
 {
-    let mut groups = [0u64; Number::GROUPS];
-    match gather(&file[at..], &mut groups) {
-        Ending::Cut => Number::Ends,
-        Ending::More => Number::TooLarge,
-        Ending::Last { count, group } => form(&groups, count, group, at),
-    }
+    Groups::gather(&file[at..])?.form(at)
 }

@@ -11,15 +11,13 @@ pub fn size_of(value: u64) -> usize
     ensures { SizeOfPromise value result }
 {
     let mut rest = value;
-    let mut n = 0;
-    while n < Number::GROUPS {
-        n += 1;
+    for n in 1..Number::GROUPS {
         if rest < RADIX {
             return n;
         }
         rest /= RADIX;
     }
-    n
+    Number::GROUPS
 }
 
 // Writes the shortest form of a value from a byte of the buffer on, and answers how many bytes that are; without room for all of them nothing is
@@ -41,10 +39,7 @@ fn has_room(bytes: usize, at: usize, value: u64) -> bool
         return false;
     }
     let left = bytes - at;
-    if Number::GROUPS <= left {
-        return true;
-    }
-    size_of(value) <= left
+    Number::GROUPS <= left || size_of(value) <= left
 }
 
 // Writes it where there is room, and counts its groups: each but the last says that another follows (rule 1.1).
@@ -54,15 +49,13 @@ fn write_groups(buffer: &mut [u8], at: usize, value: u64) -> usize
     ensures buffer_after { buffer.new ≡ sets buffer.old at (written value) }
 {
     let mut left = value;
-    let mut n = 0;
-    while n < Number::GROUPS {
+    for n in 0..Number::GROUPS {
         if left < RADIX {
             buffer[at + n] = left as u8;
             return n + 1;
         }
         buffer[at + n] = (RADIX + left % RADIX) as u8;
         left /= RADIX;
-        n += 1;
     }
-    n
+    Number::GROUPS
 }

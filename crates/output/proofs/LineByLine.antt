@@ -1,13 +1,13 @@
 -- Lines, number by number; bytes, one by one; and the rows of a table, row by row.
-use Prim.Native.Nat.{ℕ, ◌+◌, ◌-◌, ◌*◌, ◌/◌, ◌≤◌, ◌<◌}
+use Prim.Native.Nat.{ℕ, ◌+◌, ◌*◌, ◌/◌, ◌≤◌, ◌<◌}
 use mathlib.Core.Path.{◌≡◌, refl, sym, ap, ◌∙◌}
 use mathlib.Core.List.{List, [], ◌∷◌, ◌++◌, append-nil, append_assoc, flat_map}
 use native.Mathlib.Numerals.{add-one}
-use native.Mathlib.Nat.{div-mul-le_self, mul-le-mul_left}
+use native.Mathlib.Nat.{mul_comm, mul-zero, div-zero, div-eq_of_lt-le}
 use native.Mathlib.Omega.{arith}
-use lib.ListN.{length, take, drop, get_or}
-use lib.Seq.{take-suc, take_all}
-use Rattle.output.specs.Lines.{spaced, text_line, rows_text}
+use lib.ListN.{length, take, drop, get_or, length-append, length-drop}
+use lib.Seq.{take-suc, take_all, take_at, drop_at, drop-drop}
+use Rattle.output.specs.Lines.{spaced, text_line, rows_text, table_text}
 use Rattle.output.specs.Put.{Put}
 use Rattle.output.proofs.Putting.{put_then}
 
@@ -45,18 +45,56 @@ pub row_line : (letter : List ℕ) (own : ℕ) (numbers : List ℕ) → letter +
 unfolding flat_map text_line
 row_line letter own numbers = simp append_assoc
 
--- one row more, of the numbers from where it begins up to where it ends
-module _ {at : ℕ} {buffer : List ℕ} {end : ℕ} {buffer' : List ℕ} {end' : ℕ} {buffer'' : List ℕ} where
-  pub row_more :
-      (letter : List ℕ) (width : ℕ) (table : List ℕ) (row : ℕ) → Put (rows_text letter width table row) at buffer end buffer' →
-      Put (text_line letter ((row + 1) ∷ take (width * row + width - width * row) (drop (width * row) table))) end buffer' end' buffer'' →
-      Put (rows_text letter width table (row + 1)) at buffer end' buffer''
-  unfolding rows_text
-  row_more letter width table row past next =
-      let long : width * row + width - width * row ≡ width = omega arith in
-      let whole = rw (add-one row, long) at next in
-      rw (add-one row) (put_then past whole)
+-- ---- rows, from the front of the numbers that are left
+-- So many rows are put, and these numbers are left.
+pub record RowsPut (letter : List ℕ) (width : ℕ) (table : List ℕ) (at : ℕ) (buffer : List ℕ) (left : List ℕ) (count end : ℕ) (buffer' : List ℕ) : Type 0 where
+  pub left_is : left ≡ drop (width * count) table
+  pub within : width * count ≤ length table
+  pub stands : Put (rows_text letter width table count) at buffer end buffer'
 
--- a row that is there lies within the table
-pub row_within : (table width row : ℕ) → row < table / width → width * row + width ≤ table
-row_within table width row there = omega (arith, mul-le-mul_left width there, div-mul-le_self table width)
+-- before the first row
+pub rows_none :
+    (letter : List ℕ) (width : ℕ) (table : List ℕ) {at : ℕ} {buffer left : List ℕ} {count end : ℕ} →
+    left ≡ table → count ≡ 0 → Put [] at buffer end buffer → RowsPut letter width table at buffer left count end buffer
+unfolding rows_text
+rows_none letter width table all none nothing =
+    rw none (record { left_is = rw (mul-zero width) all; within = omega arith; stands = nothing })
+
+-- a table whose rows have no numbers has none
+pub no_rows :
+    (letter : List ℕ) (width : ℕ) (table : List ℕ) {at : ℕ} {buffer : List ℕ} {end : ℕ} →
+    width ≤ 0 → Put [] at buffer end buffer → Put (table_text letter width table) at buffer end buffer
+unfolding rows_text
+no_rows letter width table none nothing =
+    let zero_wide : width ≡ 0 = omega arith in
+    rw (zero_wide, div-zero (length table)) nothing
+
+module _ {letter : List ℕ} {width : ℕ} {table : List ℕ} {at : ℕ} {buffer : List ℕ} {left : List ℕ} {count end : ℕ} {buffer' : List ℕ}
+    (so_far : RowsPut letter width table at buffer left count end buffer')
+  where
+    -- how many numbers are left
+    left_long : width * count + length left ≡ length table
+    left_long = rw so_far.left_is (omega (arith, length-drop (width * count) table, so_far.within))
+
+    -- one row more
+    pub row_more :
+        (row left' : List ℕ) {end' : ℕ} {buffer'' : List ℕ} → left ≡ row ++ left' → length row ≡ width →
+        Put (text_line letter ((count + 1) ∷ row)) end buffer' end' buffer'' → RowsPut letter width table at buffer left' (count + 1) end' buffer''
+    unfolding rows_text
+    row_more row left' parts long next =
+        let front : take width (drop (width * count) table) ≡ row = rw (← so_far.left_is, parts) (take_at row left' width long) in
+        record {
+          left_is =
+              sym (drop_at row left' width long)
+              ∙ ap (drop width) (sym parts ∙ so_far.left_is)
+              ∙ drop-drop width (width * count) table
+              ∙ ap (λ (n : ℕ). drop n table) (omega arith);
+          within = omega (arith, left_long, ap length parts, length-append row left', long);
+          stands = rw (add-one count, front) (put_then so_far.stands (rw (add-one count) at next));
+        }
+
+    -- no row is left
+    pub rows_all : 0 < width → length left < width → Put (table_text letter width table) at buffer end buffer'
+    rows_all some few =
+        let all : length table / width ≡ count = div-eq_of_lt-le width (omega (arith, so_far.within, mul_comm width count)) (omega (arith, left_long, few, mul_comm width count)) in
+        rw all so_far.stands

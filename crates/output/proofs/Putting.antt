@@ -8,7 +8,11 @@ use native.Mathlib.Numerals.{add-one}
 use native.Mathlib.Omega.{arith}
 use lib.ListN.{length, take, drop, get_or, set, length-append}
 use lib.Seq.{sets, sets-eq, length-sets, set_out, take-suc, take_all, take_at}
-use Rattle.output.specs.Put.{Put}
+use mathlib.Core.Bool.{Bool}
+use borrow.Author.Tests.{le-leb}
+use Rattle.std.proofs.Common.{Bor, true≢false}
+use Rattle.std.specs.Prelude.{Option, Some, None, IsSome, cond, option_copied}
+use Rattle.output.specs.Put.{Put, WholePromise}
 
 -- ---- bytes stored one after another
 -- one list after another
@@ -74,6 +78,18 @@ module _ {at : ℕ} {buffer : List ℕ} {end : ℕ} {buffer' : List ℕ} where
   -- all are put
   pub bytes_all : (words : List ℕ) (i : ℕ) → length words ≤ i → Put (take i words) at buffer end buffer' → Put words at buffer end buffer'
   bytes_all words i all past = rw (take_all i words all) at past
+
+-- ---- text that ends within its room is whole
+pub whole_text : (end : ℕ) (room : List ℕ) {r : Option (List ℕ)} → WholePromise end room r → end ≤ length room → r ≡ Some (take end room)
+whole_text end room promised within = promised ∙ ap (λ (t : Bool). cond t (Some (take end room)) None) (le-leb end (length room) within)
+
+-- so there is a reference to it
+none≢some : {text : List ℕ} → (λ (r : Option (List ℕ)). r) None ≡ Some text → ⊥
+none≢some e = true≢false (cc)
+
+pub is_whole : (end : ℕ) (room : List ℕ) (r : Option (Bor (List ℕ))) → WholePromise end room (option_copied r) → end ≤ length room → IsSome r
+is_whole end room (Some text) promised within = refl
+is_whole end room None promised within = absurd (none≢some (whole_text end room promised within))
 
 -- ---- text that has room, put at the start of a buffer
 module _ {text buffer : List ℕ} {end : ℕ} {buffer' : List ℕ} (put : Put text 0 buffer end buffer') (room : length text ≤ length buffer) where

@@ -1,9 +1,9 @@
-// Puts bytes in hexadecimal, as byte viewers show them (rule 11.7).
+// Bytes in hexadecimal, as byte viewers show them (rule 11.7).
 ghost use Rattle.std.specs.Prelude.{◌<◌, ◌≡◌};
 ghost use Rattle.output.specs.Hexadecimal.{byte_text, bytes_text, hex_digit, sixteen};
 ghost use Rattle.output.specs.Put.{Put};
 
-use crate::text::{put_byte, put_words};
+use crate::text::Text;
 
 // How many bytes of text each byte takes: a space and two digits.
 pub const BYTE_TEXT: usize = 3;
@@ -13,29 +13,25 @@ const TEN: u8 = 10;
 
 const SIXTEEN: u8 = 16;
 
-// Puts each byte as two digits, with a space before them (rule 11.7).
-pub fn put_bytes(buffer: &mut [u8], at: usize, bytes: &[u8]) -> usize
-    ensures { Put (bytes_text bytes.now) at buffer.old result buffer.new }
-{
-    // No byte yet: no text, put where the bytes begin.
-    let mut end = put_words(buffer, at, b"");
-    let mut n = 0;
-    while n < bytes.len() {
-        end = put_two_digits(buffer, end, bytes[n]);
-        n += 1;
+impl<const N: usize> Text<N> {
+    // Puts each byte as two digits, with a space before them (rule 11.7).
+    pub fn put_bytes(&mut self, bytes: &[u8])
+        ensures { Put (bytes_text bytes.now) self.old.end self.old.room self.new.end self.new.room }
+    {
+        self.start();
+        for byte in bytes {
+            self.put_two_digits(*byte);
+        }
     }
-    end
-}
 
-// Puts one byte so.
-fn put_two_digits(buffer: &mut [u8], at: usize, byte: u8) -> usize
-    ensures { Put (byte_text byte) at buffer.old result buffer.new }
-{
-    let high = digit_of(byte / SIXTEEN);
-    let low = digit_of(byte % SIXTEEN);
-    let at = put_byte(buffer, at, b' ');
-    let at = put_byte(buffer, at, high);
-    put_byte(buffer, at, low)
+    // Puts one byte so.
+    fn put_two_digits(&mut self, byte: u8)
+        ensures { Put (byte_text byte) self.old.end self.old.room self.new.end self.new.room }
+    {
+        self.put_byte(b' ');
+        self.put_byte(digit_of(byte / SIXTEEN));
+        self.put_byte(digit_of(byte % SIXTEEN));
+    }
 }
 
 // The byte of a hexadecimal digit.

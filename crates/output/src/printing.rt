@@ -1,12 +1,13 @@
-// Hands text to standard output or standard error, and answers the text, or nothing if not all was taken (rules 11.1 and 11.2).
+// Hands text to standard output or standard error, and answers the text if all of it was taken (rules 11.1 and 11.2).
+ghost use Rattle.std.specs.Prelude.{option_copied};
 ghost use Rattle.output.specs.HandedOver.{HandedOver};
 
 // Prints a text (rules 11.1 and 11.2). If not all of it is taken, that is said on standard error.
-pub fn print<'a>(rt: &HostRuntime, program: &[u8], text: &'a [u8]) -> &'a [u8]
-    ensures { HandedOver result.now text.now }
+pub fn print<'a>(rt: &HostRuntime, program: &[u8], text: &'a [u8]) -> Option<&'a [u8]>
+    ensures { HandedOver (option_copied result) text.now }
 {
     let printed = hand_over(&rt.stdout(), text);
-    if printed.len() < text.len() {
+    if printed.is_none() {
         complain(
             rt,
             program,
@@ -17,8 +18,8 @@ pub fn print<'a>(rt: &HostRuntime, program: &[u8], text: &'a [u8]) -> &'a [u8]
 }
 
 // Says on standard error, behind the program's name, what is wrong and what to do next. If that is not taken either, no more is done.
-pub fn complain<'a>(rt: &HostRuntime, program: &[u8], words: &'a [u8]) -> &'a [u8]
-    ensures { HandedOver result.now words.now }
+pub fn complain<'a>(rt: &HostRuntime, program: &[u8], words: &'a [u8]) -> Option<&'a [u8]>
+    ensures { HandedOver (option_copied result) words.now }
 {
     let errors = rt.stderr();
     hand_over(&errors, program);
@@ -29,19 +30,16 @@ pub fn complain<'a>(rt: &HostRuntime, program: &[u8], words: &'a [u8]) -> &'a [u
 }
 
 // Hands a text over part by part, until all of it is taken, or nothing more is.
-fn hand_over<'a, P: Print>(stream: &P, text: &'a [u8]) -> &'a [u8]
-    ensures { HandedOver result.now text.now }
+fn hand_over<'a, P: Print>(stream: &P, text: &'a [u8]) -> Option<&'a [u8]>
+    ensures { HandedOver (option_copied result) text.now }
 {
     let mut taken = 0;
     while taken < text.len() {
-        let left = &text[taken..];
-        let Ok(more) = stream.write_some(left) else {
-            return &text[..0];
-        };
+        let more = stream.write_some(&text[taken..]).ok()?;
         if more == 0 {
-            return &text[..0];
+            return None;
         }
         taken += more;
     }
-    &text[..taken]
+    Some(&text[..taken])
 }

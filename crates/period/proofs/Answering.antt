@@ -2,31 +2,31 @@
 use Prim.Native.Nat.{ℕ, ◌*◌, ◌≤◌}
 use mathlib.Core.Path.{◌≡◌, refl, sym, ap, ap₂, subst, ◌∙◌}
 use mathlib.Core.List.{List, ◌++◌, append_assoc, flat_map}
-use lib.ListN.{length, length-map, drop}
-use Rattle.fields.specs.declared.answer.Answer.{Answer}
-use Rattle.fields.specs.declared.answer.Answer.TheVariants.{Accepted, Refused}
+use lib.ListN.{length, length-map, take, drop}
+use Rattle.std.specs.Prelude.{Ok, Err}
 use Rattle.fields.specs.declared.answer.Refusal.{Refusal}
-use Rattle.fields.specs.Answers.{Verdict, accepts, refuses, refusing, said}
+use Rattle.fields.specs.Answers.{Verdict, accepts, refuses, refusing}
 use Rattle.fields.specs.Readers.{Read, read, refused}
-use Rattle.fields.specs.Tests.{Test, tested_by}
+use Rattle.fields.specs.Tests.{Test, NoneFails}
 use Rattle.fields.proofs.Answers.{refuses_not_accepts}
 use Rattle.fields.proofs.Testing.{none_answers, tests_turned, tests_as, listed_length}
 use Rattle.records.specs.Headers.{announced}
+use Rattle.records.specs.Plants.{most_plants}
+use Rattle.records.specs.Segments.{most_segments}
 use Rattle.records.specs.Periods.{Period, period_file}
 use Rattle.accounts.specs.Order.{Ruling, refusal, accepted, tested, segment_tests, plant_row_numbers, segment_row_numbers, table_tests}
 use Rattle.accounts.specs.Quantified.{accounts_of, rows, judged, after_reading, quantified}
 use Rattle.accounts.proofs.Testing.{none_fails}
 use Rattle.accounts.proofs.Accepting.{accounts_length, table_room}
-use Rattle.settling.specs.declared.account.PlantAccounts.{PlantAccounts}
-use Rattle.settling.specs.declared.account.SegmentAccounts.{SegmentAccounts}
-use Rattle.settling.specs.declared.settling.Settled.{Settled}
 use Rattle.gathering.specs.Gathered.{gathering_tests}
-use Rattle.settling.specs.Settled.{segment_account, plant_account_at, plant_accounts, segment_accounts, Settlement, nothing_settled, settled_of, settled_by, settled_period, settled_after, settlement, SettlePromise}
-use Rattle.period.specs.Written.{plant_row_at, segment_row_at, first_rows, with_tables, Lent, lent, ruling_on, ruling_verdict, lent_after, HandsBack, QuantifyPromise}
-use Rattle.period.specs.Inside.{nothing_written}
+use Rattle.settling.specs.declared.account.PlantAccount.{PlantAccount}
+use Rattle.settling.specs.declared.account.SegmentAccount.{SegmentAccount}
+use Rattle.settling.specs.declared.settling.Settled.{Settled}
+use Rattle.settling.specs.Settled.{no_plant_account, no_segment_account, segment_account, plant_account_at, plant_accounts, segment_accounts, Settlement, nothing_settled, settled_of, settled_by, settled_period, settled_after, settlement, SettlePromise}
+use Rattle.period.specs.Written.{plant_row_of, segment_row_of, with_tables, Lent, lent, ruling_on, ruling_verdict, lent_after, HandsBack, QuantifyPromise}
 use Rattle.period.proofs.Refusing.{accepted_told}
-use Rattle.period.proofs.RowsWritten.{rows_length}
-use Rattle.period.proofs.RowsOfAccounts.{plant_row_of, segment_row_of, plant_rows_are, segment_rows_are, plant_rows_by, segment_rows_by}
+use Rattle.period.proofs.RowsWritten.{flat_length}
+use Rattle.period.proofs.RowsOfAccounts.{plant_rows_are, segment_rows_are, filled_front}
 
 -- ---- a settlement, with tables of given lengths
 module _ (plant_table segment_table bytes : ℕ) where
@@ -35,7 +35,7 @@ module _ (plant_table segment_table bytes : ℕ) where
   table_tests_of settled = table_tests bytes (announced (length settled.plants) (length settled.segments) 0) plant_table segment_table
 
   -- its rows
-  abbrev rows_of : Settlement → Ruling
+  abbrev pub rows_of : Settlement → Ruling
   rows_of settled = accepted (flat_map plant_row_of settled.plants) (flat_map segment_row_of settled.segments)
 
   -- the ruling: a refusal stands, else the tables decide
@@ -43,7 +43,7 @@ module _ (plant_table segment_table bytes : ℕ) where
   ruled_by (refuses notice) settled = refusal notice
   ruled_by accepts settled = tested (table_tests_of settled) (rows_of settled)
 
-  abbrev pub ruled : Settlement → Ruling
+  abbrev ruled : Settlement → Ruling
   ruled settled = ruled_by settled.verdict settled
 
   -- tests before those of the tables
@@ -66,7 +66,7 @@ module _ (plant_table segment_table bytes : ℕ) where
       (rw (long, counted, counted', plant_rows_are period, segment_rows_are (accounts_of period)) refl)
 
   -- and on a file
-  pub ruling_is : (file : List ℕ) → length file ≡ bytes → quantified file plant_table segment_table ≡ ruled (settlement file)
+  ruling_is : (file : List ℕ) → length file ≡ bytes → quantified file plant_table segment_table ≡ ruled (settlement file)
   unfolding quantified settlement
   ruling_is file long = by_outcome (period_file file)
     where
@@ -74,111 +74,105 @@ module _ (plant_table segment_table bytes : ℕ) where
       by_outcome (refused notice) = refl
       by_outcome (read period place at) = judged_is file long period
 
-  -- what it says to the caller
-  told_of_tests : (tests : List Test) (plants segments : List ℕ) → ruling_verdict (tested tests (accepted plants segments)) ≡ tested_by refuses tests accepts
-  told_of_tests tests plants segments = sym (tests_as refusal refuses ruling_verdict (λ notice. refl) tests (accepted plants segments))
+  -- a settlement that refuses nothing: the tables decide
+  module _ (settled : Settlement) (is : accepts ≡ settled.verdict) where
+    by_tables : ruled settled ≡ tested (table_tests_of settled) (rows_of settled)
+    by_tables = ap (λ (verdict : Verdict). ruled_by verdict settled) (sym is)
 
-  pub ruled_verdict :
-      (settled : Settlement) →
-      ruling_verdict (ruled settled) ≡ with_tables (length settled.plants) (length settled.segments) plant_table segment_table bytes settled.verdict
-  ruled_verdict settled = by_verdict settled.verdict
-    where
-      by_verdict :
-          (verdict : Verdict) →
-          ruling_verdict (ruled_by verdict settled) ≡ with_tables (length settled.plants) (length settled.segments) plant_table segment_table bytes verdict
-      by_verdict (refuses notice) = refl
-      by_verdict accepts = told_of_tests (table_tests_of settled) _ _
+    -- what it says to the caller
+    tables_verdict : with_tables (length settled.plants) (length settled.segments) plant_table segment_table bytes accepts ≡ ruling_verdict (ruled settled)
+    tables_verdict = tests_as refusal refuses ruling_verdict (λ notice. refl) (table_tests_of settled) (rows_of settled) ∙ sym (ap ruling_verdict by_tables)
 
-  -- if that is acceptance, the ruling has the rows
-  pub accepted_rows : (settled : Settlement) → ruling_verdict (ruled settled) ≡ accepts → ruled settled ≡ rows_of settled
-  accepted_rows settled = by_verdict settled.verdict
-    where
-      by_verdict : (verdict : Verdict) → ruling_verdict (ruled_by verdict settled) ≡ accepts → ruled_by verdict settled ≡ rows_of settled
-      by_verdict (refuses notice) e = absurd (refuses_not_accepts e)
-      by_verdict accepts e =
-          accepted_told (tested (table_tests_of settled) (rows_of settled)) (tested (table_tests_of settled) (rows_of settled) ≡ rows_of settled)
-          (λ plants segments is. none_answers refusal (rows_of settled) (none_fails (table_tests_of settled) (rows_of settled) plants segments is)) e
+    -- if that is acceptance, none of their tests fails
+    passed : accepts ≡ with_tables (length settled.plants) (length settled.segments) plant_table segment_table bytes accepts → NoneFails (table_tests_of settled)
+    passed passes =
+        accepted_told (tested (table_tests_of settled) (rows_of settled)) (NoneFails (table_tests_of settled)) (none_fails (table_tests_of settled) (rows_of settled))
+        (sym (passes ∙ tables_verdict ∙ ap ruling_verdict by_tables))
 
-  -- and there is room for them
-  pub accepted_room :
-      (settled : Settlement) → ruling_verdict (ruled settled) ≡ accepts →
-      (plant_row_numbers * length settled.plants ≤ plant_table) × (segment_row_numbers * length settled.segments ≤ segment_table)
-  accepted_room settled = by_verdict settled.verdict
-    where
-      by_verdict :
-          (verdict : Verdict) → ruling_verdict (ruled_by verdict settled) ≡ accepts →
-          (plant_row_numbers * length settled.plants ≤ plant_table) × (segment_row_numbers * length settled.segments ≤ segment_table)
-      by_verdict (refuses notice) e = absurd (refuses_not_accepts e)
-      by_verdict accepts e =
-          accepted_told (tested (table_tests_of settled) (rows_of settled)) _
-          (λ plants segments is.
-          table_room bytes (announced (length settled.plants) (length settled.segments) 0) plant_table segment_table
-          (none_fails (table_tests_of settled) (rows_of settled) plants segments is)) e
+-- ---- a file that was settled, and tables of given lengths
+module _ (file : List ℕ) (plant_table segment_table : ℕ) where
+  -- a refusal is that of the ruling
+  pub settled_refused : (why : Refusal) → SettlePromise file (Err why) → refusing why ≡ ruling_verdict (quantified file plant_table segment_table)
+  settled_refused why promised =
+      ap (λ (verdict : Verdict). ruling_verdict (ruled_by plant_table segment_table (length file) verdict (settlement file))) promised
+      ∙ sym (ap ruling_verdict (ruling_is plant_table segment_table (length file) file refl))
 
--- ---- a file that was settled, and what was answered with tables of given lengths
-module _
-    (file : List ℕ) (r : Settled) (settles : SettlePromise file r) (plant_table segment_table : ℕ) (answer : Answer)
-    (told : said answer ≡ with_tables r.plant_count r.segment_count plant_table segment_table (length file) (said r.answer)) where
-  -- that is the ruling
-  pub answer_is : said answer ≡ ruling_verdict (quantified file plant_table segment_table)
-  answer_is =
-      told
-      ∙ rw (settles.plant_count_is, settles.segment_count_is, settles.verdict) refl
-      ∙ sym (ap ruling_verdict (ruling_is plant_table segment_table (length file) file refl) ∙ ruled_verdict plant_table segment_table (length file) (settlement file))
+  module _ (r : Settled) (settles : SettlePromise file (Ok r)) where
+    -- its accounts stand at the front of the arrays
+    pub plants_are : take r.plant_count r.plants ≡ (settlement file).plants
+    plants_are = filled_front no_plant_account most_plants r.plant_count (settlement file).plants r.plants settles.plants settles.plant_count_is
 
-  -- accepted
-  module _ (is : answer ≡ Accepted) where
-    accepting : ruling_verdict (ruled plant_table segment_table (length file) (settlement file)) ≡ accepts
-    accepting = sym (sym (ap said is) ∙ answer_is ∙ ap ruling_verdict (ruling_is plant_table segment_table (length file) file refl))
+    pub segments_are : take r.segment_count r.segments ≡ (settlement file).segments
+    segments_are =
+        filled_front no_segment_account most_segments r.segment_count (settlement file).segments r.segments settles.segments settles.segment_count_is
 
-    -- the ruling has their rows
-    pub rows_are : quantified file plant_table segment_table ≡ accepted (first_rows (plant_row_at r.plants) r.plant_count) (first_rows (segment_row_at r.segments) r.segment_count)
-    rows_are =
-        ruling_is plant_table segment_table (length file) file refl
-        ∙ accepted_rows plant_table segment_table (length file) (settlement file) accepting
-        ∙ sym (rw (settles.plant_count_is, settles.segment_count_is) (ap₂ accepted (plant_rows_by r.plants (settlement file).plants settles.plants) (segment_rows_by r.segments (settlement file).segments settles.segments)))
+    -- what the tables are tested for
+    abbrev pub tables_say : Verdict
+    tables_say = with_tables r.plant_count r.segment_count plant_table segment_table (length file) accepts
 
-    -- for which there is room
-    pub room_is : (plant_row_numbers * r.plant_count ≤ plant_table) × (segment_row_numbers * r.segment_count ≤ segment_table)
-    room_is = rw (settles.plant_count_is, settles.segment_count_is) (accepted_room plant_table segment_table (length file) (settlement file) accepting)
+    tables_say_is : tables_say ≡ with_tables (length (settlement file).plants) (length (settlement file).segments) plant_table segment_table (length file) accepts
+    tables_say_is = rw (settles.plant_count_is, settles.segment_count_is) refl
 
--- ---- how many numbers the rows have, by their count
-pub plants_long : (columns : PlantAccounts) (count : ℕ) → length (first_rows (plant_row_at columns) count) ≡ plant_row_numbers * count
-plants_long columns = rows_length (plant_row_at columns) plant_row_numbers (λ i. refl)
+    -- that is the ruling
+    pub verdict_is : tables_say ≡ ruling_verdict (quantified file plant_table segment_table)
+    verdict_is =
+        tables_say_is
+        ∙ tables_verdict plant_table segment_table (length file) (settlement file) settles.verdict
+        ∙ sym (ap ruling_verdict (ruling_is plant_table segment_table (length file) file refl))
 
-pub segments_long : (columns : SegmentAccounts) (count : ℕ) → length (first_rows (segment_row_at columns) count) ≡ segment_row_numbers * count
-segments_long columns = rows_length (segment_row_at columns) segment_row_numbers (λ i. refl)
+    -- accepted
+    module _ (passes : accepts ≡ tables_say) where
+      none : NoneFails (table_tests_of plant_table segment_table (length file) (settlement file))
+      none = passed plant_table segment_table (length file) (settlement file) settles.verdict (passes ∙ tables_say_is)
+
+      -- the ruling has the rows of the accounts
+      pub rows_are :
+          quantified file plant_table segment_table ≡ accepted (flat_map plant_row_of (take r.plant_count r.plants)) (flat_map segment_row_of (take r.segment_count r.segments))
+      rows_are =
+          ruling_is plant_table segment_table (length file) file refl
+          ∙ by_tables plant_table segment_table (length file) (settlement file) settles.verdict
+          ∙ none_answers refusal _ none
+          ∙ ap₂ (λ (plants : List PlantAccount) (segments : List SegmentAccount). accepted (flat_map plant_row_of plants) (flat_map segment_row_of segments))
+          (sym plants_are) (sym segments_are)
+
+      -- for which there is room
+      pub room_is :
+          (plant_row_numbers * length (take r.plant_count r.plants) ≤ plant_table)
+          × (segment_row_numbers * length (take r.segment_count r.segments) ≤ segment_table)
+      room_is =
+          rw (plants_are, segments_are)
+          (table_room (length file) (announced (length (settlement file).plants) (length (settlement file).segments) 0) plant_table segment_table none)
+
+-- ---- how many numbers the rows have
+pub plants_long : (accounts : List PlantAccount) → length (flat_map plant_row_of accounts) ≡ plant_row_numbers * length accounts
+plants_long = flat_length plant_row_of plant_row_numbers (λ account. refl)
+
+pub segments_long : (accounts : List SegmentAccount) → length (flat_map segment_row_of accounts) ≡ segment_row_numbers * length accounts
+segments_long = flat_length segment_row_of segment_row_numbers (λ account. refl)
 
 -- ---- the call on tables of numbers
-module _
-    (file : List ℕ) (r : Settled) (settles : SettlePromise file r) (tables : Lent) (answer : Answer)
-    (told : said answer ≡ with_tables r.plant_count r.segment_count (length tables.plants) (length tables.segments) (length file) (said r.answer)) where
-  verdict_is : said answer ≡ ruling_verdict (ruling_on file tables)
-  verdict_is = answer_is file r settles (length tables.plants) (length tables.segments) answer told
-
+module _ (file : List ℕ) (tables : Lent) where
   -- a refusal writes nothing
-  pub call_refuses : (why : Refusal) → answer ≡ Refused why → QuantifyPromise file tables (nothing_written why) tables
-  call_refuses why is = by_ruling (ruling_on file tables) refl (sym (ap said is) ∙ verdict_is)
+  pub call_refuses : (why : Refusal) → refusing why ≡ ruling_verdict (ruling_on file tables) → QuantifyPromise file tables (Err why) tables
+  call_refuses why = by_ruling (ruling_on file tables) refl
     where
-      by_ruling : (ruling : Ruling) → ruling_on file tables ≡ ruling → refusing why ≡ ruling_verdict ruling → QuantifyPromise file tables (nothing_written why) tables
-      by_ruling (refusal notice) e verdict = record {
-        hands_back = subst (HandsBack (nothing_written why)) (sym e) (record { verdict = verdict; plants = refl; segments = refl });
+      by_ruling : (ruling : Ruling) → ruling_on file tables ≡ ruling → refusing why ≡ ruling_verdict ruling → QuantifyPromise file tables (Err why) tables
+      by_ruling (refusal notice) e says = record {
+        hands_back = subst (HandsBack (Err why)) (sym e) (cc);
         leaves = sym (ap (λ (ruling : Ruling). lent_after ruling tables) e);
       }
-      by_ruling (accepted plants segments) e verdict = absurd (refuses_not_accepts verdict)
+      by_ruling (accepted plants segments) e says = absurd (refuses_not_accepts says)
 
-  -- acceptance writes the rows
+  -- acceptance writes the rows of some accounts
   pub call_accepts :
-      (tables' : Lent) → answer ≡ Accepted →
-      tables'.plants ≡ first_rows (plant_row_at r.plants) r.plant_count ++ drop (plant_row_numbers * r.plant_count) tables.plants →
-      tables'.segments ≡ first_rows (segment_row_at r.segments) r.segment_count ++ drop (segment_row_numbers * r.segment_count) tables.segments →
-      QuantifyPromise file tables
-      (record { answer = answer; plant_numbers = plant_row_numbers * r.plant_count; segment_numbers = segment_row_numbers * r.segment_count }) tables'
-  call_accepts tables' is plants_written segments_written =
-      let rows = rows_are file r settles (length tables.plants) (length tables.segments) answer told is in
-      let long = plants_long r.plants r.plant_count in
-      let long' = segments_long r.segments r.segment_count in
+      (plants : List PlantAccount) (segments : List SegmentAccount) → ruling_on file tables ≡ accepted (flat_map plant_row_of plants) (flat_map segment_row_of segments) →
+      (tables' : Lent) → tables'.plants ≡ flat_map plant_row_of plants ++ drop (plant_row_numbers * length plants) tables.plants →
+      tables'.segments ≡ flat_map segment_row_of segments ++ drop (segment_row_numbers * length segments) tables.segments →
+      QuantifyPromise file tables (Ok (record { plant_numbers = plant_row_numbers * length plants; segment_numbers = segment_row_numbers * length segments })) tables'
+  call_accepts plants segments rows tables' plants_written segments_written =
+      let long = plants_long plants in
+      let long' = segments_long segments in
       record {
-        hands_back = record { verdict = verdict_is; plants = rw rows (sym long); segments = rw rows (sym long') };
+        hands_back = rw rows (sym long, sym long');
         leaves = rw (rows, long, long') (ap₂ lent plants_written segments_written);
       }

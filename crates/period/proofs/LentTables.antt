@@ -5,10 +5,9 @@ use mathlib.Core.Path.{◌≡◌, refl, sym, ap, ◌∙◌}
 use mathlib.Core.Bool.{true}
 use mathlib.Core.List.{List, map}
 use native.Mathlib.Nat.{mul-le-mul_left}
+use Rattle.std.specs.Prelude.{Ok}
 use lib.Count.{ones}
 use lib.ListN.{length, drop, get_or}
-use Rattle.fields.specs.Answers.{accepts, said}
-use Rattle.fields.proofs.Answers.{refuses_not_accepts}
 use Rattle.fields.specs.Lists.{sum}
 use Rattle.records.specs.Plants.{no_plant}
 use Rattle.records.specs.Segments.{no_segment}
@@ -33,7 +32,7 @@ use Rattle.accounts.proofs.LargerLine.{larger_line, larger_captured}
 use Rattle.accounts.proofs.OthersFractionAndLines.{others_fraction_and_lines, no_segment_changes}
 use Rattle.accounts.proofs.ChargesAddUp.{charges_add_up}
 use Rattle.accounts.proofs.ChargesCounted.{charges_of_plant, charges_counted}
-use Rattle.period.specs.Written.{Lent, lent, ruling_on, ruling_verdict, lent_after, Left}
+use Rattle.period.specs.Written.{Lent, lent, ruling_on, HandsBack, lent_after, Left}
 
 -- ---- the tables hold the rows of an accepted file
 record Rows (file plants segments : List ℕ) : Type 0 where
@@ -46,13 +45,13 @@ record Rows (file plants segments : List ℕ) : Type 0 where
 -- those that an accepting call left do
 rows_left : {file plants segments : List ℕ} → Left file plants segments → Rows file plants segments
 rows_left {file} {plants} {segments} left =
-    by_ruling (ruling_on file left.before) refl (sym left.promised.hands_back.verdict ∙ ap said left.accepting) left.promised.leaves
+    by_ruling (ruling_on file left.before) refl left.promised.hands_back left.promised.leaves
   where
     by_ruling :
-        (ruling : Ruling) → ruling_on file left.before ≡ ruling → ruling_verdict ruling ≡ accepts →
+        (ruling : Ruling) → ruling_on file left.before ≡ ruling → HandsBack (Ok left.written) ruling →
         lent plants segments ≡ lent_after ruling left.before → Rows file plants segments
-    by_ruling (refusal notice) is verdict leaves = absurd (refuses_not_accepts verdict)
-    by_ruling (accepted plants_told segments_told) is verdict leaves =
+    by_ruling (refusal notice) is handed leaves = absurd handed
+    by_ruling (accepted plants_told segments_told) is handed leaves =
         let file_accepted : Accepted file plants_told segments_told =
         record { plant_table = length left.before.plants; segment_table = length left.before.segments; answer = is } in
         let means = accepted_means file_accepted in

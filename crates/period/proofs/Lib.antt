@@ -1,5 +1,3 @@
--- The room in the tables.
-mod Rooms
 -- The rows, written one after another, which the C entry does too.
 pub mod RowsWritten
 mod RowsOfAccounts

@@ -3,17 +3,17 @@
 use Prim.Native.Nat.{ℕ}
 use mathlib.Core.Path.{◌≡◌, refl, sym, ap, ◌∙◌}
 use mathlib.Core.List.{List}
+use Rattle.std.specs.Prelude.{Ok, Err}
 use mathlib.Core.Logic.{◌↔◌}
 use lib.ListN.{length}
-use Rattle.fields.specs.Answers.{Notice, accepts, refuses, said}
+use Rattle.fields.specs.Answers.{Notice, accepts, refuses}
 use Rattle.fields.specs.Tests.{Test, FirstFails, NoneFails}
 use Rattle.fields.proofs.Answers.{refuses_not_accepts}
 use Rattle.accounts.specs.Order.{Ruling, refusal, accepted}
 use Rattle.accounts.specs.Quantified.{rows}
 use Rattle.accounts.specs.AllTests.{all_tests}
 use Rattle.accounts.proofs.Order.{refused_exactly, accepted_is, accepted_exactly}
-use Rattle.period.specs.declared.call.Quantified.{Quantified}
-use Rattle.period.specs.Written.{Lent, ruling_on, ruling_verdict, lent_after, QuantifyPromise}
+use Rattle.period.specs.Written.{Lent, Told, told, ruling_on, ruling_verdict, HandsBack, lent_after, QuantifyPromise}
 
 -- ---- a verdict tells the ruling
 -- a refusal
@@ -28,8 +28,15 @@ pub accepted_told :
 accepted_told (refusal notice) Claim then e = absurd (refuses_not_accepts e)
 accepted_told (accepted plants segments) Claim then e = then plants segments refl
 
+-- what is handed back by a ruling says its verdict
+pub handed_verdict : (r : Told) (ruling : Ruling) → HandsBack r ruling → told r ≡ ruling_verdict ruling
+handed_verdict (Ok written) (accepted plants segments) handed = refl
+handed_verdict (Ok written) (refusal notice) handed = absurd handed
+handed_verdict (Err why) (accepted plants segments) handed = absurd handed
+handed_verdict (Err why) (refusal notice) handed = ap (λ (n : Notice). refuses n) handed
+
 -- ---- the call, lent two tables
-module _ {file : List ℕ} {tables : Lent} {r : Quantified} {tables' : Lent} (promised : QuantifyPromise file tables r tables') where
+module _ {file : List ℕ} {tables : Lent} {r : Told} {tables' : Lent} (promised : QuantifyPromise file tables r tables') where
   -- the ruling of the definitions, and all tests
   abbrev ruling : Ruling
   ruling = ruling_on file tables
@@ -37,26 +44,29 @@ module _ {file : List ℕ} {tables : Lent} {r : Quantified} {tables' : Lent} (pr
   abbrev tests : List Test
   tests = all_tests file (length tables.plants) (length tables.segments)
 
+  verdict : told r ≡ ruling_verdict ruling
+  verdict = handed_verdict r ruling promised.hands_back
+
   -- refused with a notice: that is the first test that fails
-  pub refuses_exactly : (notice : Notice) → (said r.answer ≡ refuses notice) ↔ FirstFails tests notice
+  pub refuses_exactly : (notice : Notice) → (told r ≡ refuses notice) ↔ FirstFails tests notice
   refuses_exactly notice =
       let exactly = refused_exactly file (length tables.plants) (length tables.segments) notice in (
-        λ told. exactly.0 (refusal_told ruling notice (sym promised.hands_back.verdict ∙ told)),
-        λ first. promised.hands_back.verdict ∙ ap ruling_verdict (exactly.1 first),
+        λ tells. exactly.0 (refusal_told ruling notice (sym verdict ∙ tells)),
+        λ first. verdict ∙ ap ruling_verdict (exactly.1 first),
       )
 
   -- accepted: none fails
-  pub accepts_exactly : (said r.answer ≡ accepts) ↔ NoneFails tests
+  pub accepts_exactly : (told r ≡ accepts) ↔ NoneFails tests
   unfolding rows
   accepts_exactly =
       let plant_table = length tables.plants in
       let segment_table = length tables.segments in (
-        λ told. accepted_told ruling (NoneFails tests) (accepted_is file plant_table segment_table) (sym promised.hands_back.verdict ∙ told),
-        λ none. promised.hands_back.verdict ∙ ap ruling_verdict ((accepted_exactly file plant_table segment_table).1 none),
+        λ tells. accepted_told ruling (NoneFails tests) (accepted_is file plant_table segment_table) (sym verdict ∙ tells),
+        λ none. verdict ∙ ap ruling_verdict ((accepted_exactly file plant_table segment_table).1 none),
       )
 
   -- a refusal leaves both tables alone
-  pub untouched : (notice : Notice) → said r.answer ≡ refuses notice → tables' ≡ tables
-  untouched notice told =
+  pub untouched : (notice : Notice) → told r ≡ refuses notice → tables' ≡ tables
+  untouched notice tells =
       promised.leaves
-      ∙ ap (λ (a : Ruling). lent_after a tables) (refusal_told ruling notice (sym promised.hands_back.verdict ∙ told))
+      ∙ ap (λ (a : Ruling). lent_after a tables) (refusal_told ruling notice (sym verdict ∙ tells))

@@ -1,36 +1,26 @@
--- The rows of the definitions are those of the settled accounts, and so are the rows by the accounts' columns.
-use Prim.Native.Nat.{ℕ, suc, ◌+◌}
+-- The rows of the definitions are those of the settled accounts, which stand at the front of what the code has.
+use Prim.Native.Nat.{ℕ, suc, ◌+◌, ◌-◌}
 use mathlib.Core.Path.{◌≡◌, refl, sym, ap, ap₂, ◌∙◌}
 use mathlib.Core.List.{List, [], ◌∷◌, ◌++◌, flat_map, map}
 use native.Mathlib.Omega.{arith}
-use lib.ListN.{length, get_or, get_or-map}
+use lib.ListN.{length, take, get_or, replicate}
+use lib.Seq.{take_at}
+use Rattle.fields.specs.Lists.{filled}
 use Rattle.fields.specs.Tests.{listed}
 use Rattle.records.specs.declared.line.Line.{Line}
 use Rattle.records.specs.declared.plant.Plant.{Plant}
-use Rattle.records.specs.Plants.{most_plants, no_plant}
-use Rattle.records.specs.Segments.{most_segments}
+use Rattle.records.specs.Plants.{no_plant}
 use Rattle.records.specs.Periods.{Period}
 use Rattle.accounts.specs.Flow.{Standing, nowhere}
 use Rattle.accounts.specs.Accounts.{Account}
-use Rattle.accounts.specs.Rows.{plant_row, associated, plant_rows, segment_row, segment_rows}
+use Rattle.accounts.specs.Rows.{plant_row, associated, plant_rows, segment_rows}
 use Rattle.accounts.specs.Quantified.{accounts_of, stores}
 use Rattle.accounts.proofs.RowsAt.{stores_length}
-use Rattle.gathering.specs.Gathered.{column_of}
-use Rattle.gathering.proofs.Listing.{filled_at}
-use Rattle.settling.specs.declared.account.PlantAccounts.{PlantAccounts}
-use Rattle.settling.specs.declared.account.SegmentAccounts.{SegmentAccounts}
-use Rattle.settling.specs.Settled.{PlantAccount, SegmentAccount, PlantColumns, SegmentColumns, segment_account, plant_account_at, plant_accounts}
-use Rattle.period.specs.Written.{plant_row_at, segment_row_at, first_rows}
-use Rattle.period.proofs.RowsWritten.{rows_of}
+use Rattle.settling.specs.declared.account.PlantAccount.{PlantAccount}
+use Rattle.settling.specs.Settled.{segment_account, plant_account_at, plant_accounts}
+use Rattle.period.specs.Written.{plant_row_of, segment_row_of}
 
 -- ---- the rows of the definitions, by the accounts
--- the row of an account
-abbrev pub plant_row_of : PlantAccount → List ℕ
-plant_row_of account = plant_row account.exported account.fraction account.stored account.associated
-
-abbrev pub segment_row_of : SegmentAccount → List ℕ
-segment_row_of account = segment_row account.inflow account.outflow account.emission account.plants
-
 module _ (lines : List Line) (accounts : List Account) where
   -- of the plants from an index on
   plant_rows_from :
@@ -60,39 +50,8 @@ unfolding segment_rows flat_map
 segment_rows_are [] = refl
 segment_rows_are (account ∷ accounts) = ap (λ (l : List ℕ). segment_row_of (segment_account account) ++ l) (segment_rows_are accounts)
 
--- ---- the rows by the columns of the accounts
--- a figure of the account at an index
-figure_at : {A : Type 0} (figure : A → ℕ) (room : ℕ) (accounts : List A) (column : List ℕ) (none : A) (i : ℕ) → figure none ≡ 0 → column ≡ column_of room figure accounts → get_or column i 0 ≡ figure (get_or accounts i none)
-figure_at figure room accounts column none i nothing is =
-    ap (λ (l : List ℕ). get_or l i 0) is
-    ∙ filled_at 0 room (map figure accounts) i
-    ∙ ap (get_or (map figure accounts) i) (sym nothing)
-    ∙ get_or-map figure accounts i none
-
--- no account
-abbrev no_plant_account : PlantAccount
-no_plant_account = record { exported = 0; fraction = 0; stored = 0; associated = 0 }
-
-abbrev no_segment_account : SegmentAccount
-no_segment_account = record { inflow = 0; outflow = 0; emission = 0; plants = 0 }
-
-pub plant_rows_by : (columns : PlantAccounts) (accounts : List PlantAccount) → PlantColumns columns accounts → first_rows (plant_row_at columns) (length accounts) ≡ flat_map plant_row_of accounts
-plant_rows_by columns accounts c =
-    rows_of plant_row_of (plant_row_at columns) no_plant_account accounts (λ i below.
-    rw (
-      figure_at (λ (a : PlantAccount). a.exported) most_plants accounts columns.exported no_plant_account i refl c.exported,
-      figure_at (λ (a : PlantAccount). a.fraction) most_plants accounts columns.fraction no_plant_account i refl c.fraction,
-      figure_at (λ (a : PlantAccount). a.stored) most_plants accounts columns.stored no_plant_account i refl c.stored,
-      figure_at (λ (a : PlantAccount). a.associated) most_plants accounts columns.associated no_plant_account i refl c.associated,
-    ) refl)
-
-pub segment_rows_by :
-    (columns : SegmentAccounts) (accounts : List SegmentAccount) → SegmentColumns columns accounts → first_rows (segment_row_at columns) (length accounts) ≡ flat_map segment_row_of accounts
-segment_rows_by columns accounts c =
-    rows_of segment_row_of (segment_row_at columns) no_segment_account accounts (λ i below.
-    rw (
-      figure_at (λ (a : SegmentAccount). a.inflow) most_segments accounts columns.inflow no_segment_account i refl c.inflow,
-      figure_at (λ (a : SegmentAccount). a.outflow) most_segments accounts columns.outflow no_segment_account i refl c.outflow,
-      figure_at (λ (a : SegmentAccount). a.emission) most_segments accounts columns.emission no_segment_account i refl c.emission,
-      figure_at (λ (a : SegmentAccount). a.plants) most_segments accounts columns.plants no_segment_account i refl c.plants,
-    ) refl)
+-- ---- the accounts in an array: the first, as many as there are
+pub filled_front :
+    {A : Type 0} (none : A) (room count : ℕ) (held array : List A) → array ≡ filled none room held → count ≡ length held → take count array ≡ held
+unfolding filled
+filled_front none room count held array is long = ap (take count) is ∙ take_at held (replicate (room - length held) none) count (sym long)

@@ -1,16 +1,14 @@
 -- Writing rows of one length into a table, one after another: the loop that does, with one law for its start, a turn, and its end.
-use Prim.Native.Nat.{ℕ, suc, ◌+◌, ◌*◌, ◌≤◌, ◌<◌}
-use mathlib.Core.Path.{◌≡◌, refl, sym, ap, ap₂, ◌∙◌}
+use Prim.Native.Nat.{ℕ, suc, ◌+◌, ◌-◌, ◌*◌, ◌≤◌, ◌<◌}
+use mathlib.Core.Path.{◌≡◌, refl, sym, ap, ◌∙◌}
 use mathlib.Core.List.{List, [], ◌∷◌, ◌++◌, append_assoc, append-nil, flat_map}
 use native.Mathlib.Nat.{mul-le-mul_left, mul-zero}
 use native.Mathlib.Numerals.{add-one}
 use native.Mathlib.Omega.{arith}
 use lib.ListN.{length, take, drop, get_or, length-append}
-use lib.Seq.{take-suc, take_at, drop_at, drop-drop, length_front, length-take-le}
-use Rattle.fields.specs.Tests.{listed}
-use Rattle.fields.proofs.Testing.{listed_length}
-use Rattle.gathering.proofs.Listing.{listed_on}
-use Rattle.period.specs.Written.{first_rows}
+use borrow.Rule.Slice.PartMut.{put_mid}
+use lib.Seq.{take-length, take-suc, take_at, drop_at, drop-drop, length_front, length-take-le}
+use Rattle.std.proofs.lemmas.Slice.{put_mid-paste}
 
 -- ---- rows of n numbers, one behind another
 module _ (n : ℕ) (rows : ℕ → List ℕ) (count : ℕ) (entry : List ℕ) where
@@ -52,6 +50,14 @@ module _ {n : ℕ} {rows : ℕ → List ℕ} {count : ℕ} {entry table : List �
         so_far = rw (next, one_more, ← drop-drop n (n * k) entry, ← behind, ← before, drop-drop) written;
       })
 
+  -- the same by what a write to its part of the table leaves
+  pub writing_part :
+      k < count → (row : List ℕ) → length row ≡ n → rows (suc k) ≡ rows k ++ row → Writing n rows count entry (put_mid (n * k) (n * k + n - n * k) table row) (k + 1)
+  writing_part more row long next =
+      writing_on more row _ long next
+      (put_mid-paste (n * k) (n * k + n - n * k) table row row n refl (omega arith) (sym long)
+      ∙ ap (λ (l : List ℕ). take (n * k) table ++ l ++ drop (n * k + n) table) (rw (← long) (take-length row)))
+
   -- all are written
   pub writing_end : count ≤ k → table ≡ rows count ++ drop (n * count) entry
   writing_end all = let here : k ≡ count = omega arith in rw here at w.so_far
@@ -68,32 +74,25 @@ unfolding flat_map
 flat_last row [] x = append-nil (row x)
 flat_last row (y ∷ all) x = ap (λ (l : List ℕ). row y ++ l) (flat_last row all x) ∙ sym (append_assoc (row y) (flat_map row all) (row x))
 
-pub flat_on :
+pub rows_on :
     {A : Type 0} (row : A → List ℕ) (all : List A) (none : A) (k : ℕ) → k < length all →
     flat_map row (take (suc k) all) ≡ flat_map row (take k all) ++ row (get_or all k none)
-flat_on row all none k below = ap (flat_map row) (take-suc all k none below) ∙ flat_last row (take k all) (get_or all k none)
+rows_on row all none k below = ap (flat_map row) (take-suc all k none below) ∙ flat_last row (take k all) (get_or all k none)
 
--- ---- rows by their index
--- how many numbers there are
-pub rows_length : (row : ℕ → List ℕ) (n : ℕ) → ((i : ℕ) → length (row i) ≡ n) → (count : ℕ) → length (first_rows row count) ≡ n * count
-rows_length row n long count = flat_length row n long (listed (λ (i : ℕ). i) 0 count) ∙ ap (λ (k : ℕ). n * k) (listed_length (λ (i : ℕ). i) 0 count)
+-- ---- the rows of a list
+module _ {A : Type 0} (row : A → List ℕ) (all : List A) where
+  -- those of its first
+  abbrev pub first_rows : ℕ → List ℕ
+  first_rows count = flat_map row (take count all)
 
--- one row more comes last
-pub rows_on : (row : ℕ → List ℕ) (k : ℕ) → first_rows row (suc k) ≡ first_rows row k ++ row k
-rows_on row k = ap (flat_map row) (listed_on (λ (i : ℕ). i) 0 k k (omega arith)) ∙ flat_last row (listed (λ (i : ℕ). i) 0 k) k
+  module _ {n : ℕ} {entry table : List ℕ} {k : ℕ} (w : Writing n first_rows (length all) entry table k) where
+    -- one more is written
+    pub row_written :
+        k < length all → (one : A) {numbers : List ℕ} → one ≡ get_or all k one → numbers ≡ row one → length numbers ≡ n →
+        Writing n first_rows (length all) entry (put_mid (n * k) (n * k + n - n * k) table numbers) (k + 1)
+    row_written more one there is long =
+        writing_part w more _ long (rows_on row all one k more ∙ ap (λ (l : List ℕ). first_rows k ++ l) (ap row (sym there) ∙ sym is))
 
--- the rows of a list, by its indices
-rows_from :
-    {A : Type 0} (made : A → List ℕ) (row : ℕ → List ℕ) (none : A) (all : List A) (from : ℕ) →
-    ((i j : ℕ) → from + i ≡ j → i < length all → row j ≡ made (get_or all i none)) → flat_map row (listed (λ (i : ℕ). i) from (length all)) ≡ flat_map made all
-unfolding flat_map listed
-rows_from made row none [] from same = refl
-rows_from made row none (x ∷ all) from same =
-    ap₂ ◌++◌ (same 0 from (omega arith) (omega arith))
-    (rows_from made row none all (suc from) (λ i j is below. same (suc i) j (omega arith) (omega arith)))
-
-pub rows_of :
-    {A : Type 0} (made : A → List ℕ) (row : ℕ → List ℕ) (none : A) (all : List A) → ((i : ℕ) → i < length all → row i ≡ made (get_or all i none)) →
-    first_rows row (length all) ≡ flat_map made all
-rows_of made row none all same =
-    rows_from made row none all 0 (λ i j is below. let here : j ≡ i = omega arith in ap row here ∙ same i below)
+    -- all are
+    pub rows_end : length all ≤ k → table ≡ flat_map row all ++ drop (n * length all) entry
+    rows_end done = writing_end w done ∙ ap (λ (l : List _). flat_map row l ++ drop (n * length all) entry) (take-length all)

@@ -1,31 +1,24 @@
 -- What the call answers and leaves in the two tables, by the ruling of the definitions; and its parts: a row, the room in the tables.
-use Rattle.std.specs.Prelude.{ℕ, ◌≡◌, length, drop, get_or}
-use mathlib.Core.List.{List, [], ◌++◌, flat_map}
-use Rattle.fields.specs.declared.answer.Answer.{Answer}
-use Rattle.fields.specs.declared.answer.Answer.TheVariants.{Accepted}
-use Rattle.fields.specs.Answers.{Verdict, accepts, refuses, said}
-use Rattle.fields.specs.Tests.{tested_by, listed}
+use Rattle.std.specs.Prelude.{ℕ, ◌≡◌, length, drop, Result, Ok, Err}
+use mathlib.Core.List.{List, [], ◌++◌}
+use Rattle.fields.specs.declared.answer.Refusal.{Refusal}
+use Rattle.fields.specs.Answers.{Answer, notice_of, Verdict, accepts, refuses, refusing, said}
+use Rattle.fields.specs.Tests.{tested_by}
 use Rattle.records.specs.Headers.{announced}
 use Rattle.accounts.specs.Rows.{plant_row, segment_row}
 use Rattle.accounts.specs.Order.{Ruling, refusal, accepted, table_tests}
 use Rattle.accounts.specs.Quantified.{quantified}
-use Rattle.settling.specs.declared.account.PlantAccounts.{PlantAccounts}
-use Rattle.settling.specs.declared.account.SegmentAccounts.{SegmentAccounts}
+use Rattle.settling.specs.declared.account.PlantAccount.{PlantAccount}
+use Rattle.settling.specs.declared.account.SegmentAccount.{SegmentAccount}
 use Rattle.period.specs.declared.call.Quantified.{Quantified}
 
 -- ---- the parts
--- The row of the plant at an index, by the columns of the accounts, and below of a segment (rules 7.1 and 7.2).
-abbrev pub plant_row_at : PlantAccounts → ℕ → List ℕ
-plant_row_at accounts p =
-    plant_row (get_or accounts.exported p 0) (get_or accounts.fraction p 0) (get_or accounts.stored p 0) (get_or accounts.associated p 0)
+-- The row of a plant's account, and below of a segment's (rules 7.1 and 7.2).
+abbrev pub plant_row_of : PlantAccount → List ℕ
+plant_row_of account = plant_row account.exported account.fraction account.stored account.associated
 
-abbrev pub segment_row_at : SegmentAccounts → ℕ → List ℕ
-segment_row_at accounts s =
-    segment_row (get_or accounts.inflow s 0) (get_or accounts.outflow s 0) (get_or accounts.emission s 0) (get_or accounts.plants s 0)
-
--- The first `count` rows, one after another (rule 10.2).
-abbrev pub first_rows : (ℕ → List ℕ) → ℕ → List ℕ
-first_rows row count = flat_map row (listed (λ (i : ℕ). i) 0 count)
+abbrev pub segment_row_of : SegmentAccount → List ℕ
+segment_row_of account = segment_row account.inflow account.outflow account.emission account.plants
 
 -- The verdict on a settled file, with these counts of plants and segments, tables of these lengths and this many bytes: 14 and 15 come last (rules 8.7
 -- and 8.9).
@@ -34,11 +27,11 @@ with_tables plants segments plant_table segment_table bytes (refuses notice) = r
 with_tables plants segments plant_table segment_table bytes accepts = tested_by refuses (table_tests bytes (announced plants segments 0) plant_table segment_table) accepts
 
 -- What `plant_row`, `segment_row` and `answer_with_tables` promise (rules 7.1, 7.2, 8.7 and 8.9).
-abbrev pub PlantRowPromise : (exported fraction stored associated : ℕ) → List ℕ → Type 0
-PlantRowPromise exported fraction stored associated r = r ≡ plant_row exported fraction stored associated
+abbrev pub PlantRowPromise : PlantAccount → List ℕ → Type 0
+PlantRowPromise account r = r ≡ plant_row_of account
 
-abbrev pub SegmentRowPromise : (inflow outflow emission plants : ℕ) → List ℕ → Type 0
-SegmentRowPromise inflow outflow emission plants r = r ≡ segment_row inflow outflow emission plants
+abbrev pub SegmentRowPromise : SegmentAccount → List ℕ → Type 0
+SegmentRowPromise account r = r ≡ segment_row_of account
 
 abbrev pub AnswerWithTablesPromise : (settled : Answer) (plants segments plant_table segment_table bytes : ℕ) → Answer → Type 0
 AnswerWithTablesPromise settled plants segments plant_table segment_table bytes r =
@@ -79,20 +72,28 @@ overwritten numbers table = numbers ++ drop (length numbers) table
 abbrev pub lent_after : Ruling → Lent → Lent
 lent_after ruling tables = lent (overwritten (plant_entries ruling) tables.plants) (overwritten (segment_entries ruling) tables.segments)
 
--- What the call hands back: the verdict, and how many numbers of each table are written (rule 10.1).
-pub record HandsBack (r : Quantified) (ruling : Ruling) : Type 0 where
-  pub verdict : said r.answer ≡ ruling_verdict ruling
-  pub plants : r.plant_numbers ≡ length (plant_entries ruling)
-  pub segments : r.segment_numbers ≡ length (segment_entries ruling)
+-- What the call answers: how many numbers of each table are written, or a refusal; and below what that says (rules 8.1 and 10.1).
+abbrev pub Told : Type 0
+Told = Result Quantified Refusal
+
+abbrev pub told : Told → Verdict
+told (Ok written) = accepts
+told (Err why) = refusing why
+
+-- By the ruling: how many numbers each table then has, or the notice (rules 8.1 and 10.1).
+abbrev pub HandsBack : Told → Ruling → Type 0
+HandsBack (Ok written) (accepted plants segments) = (written.plant_numbers ≡ length plants) × (written.segment_numbers ≡ length segments)
+HandsBack (Err why) (refusal notice) = notice_of why ≡ notice
+HandsBack (Ok written) (refusal notice) = ⊥
+HandsBack (Err why) (accepted plants segments) = ⊥
 
 -- The promise of `quantify`: what it hands back and what it leaves in the two tables, for every file and all tables (rules 10.1 and 13.1).
-pub record QuantifyPromise (file : List ℕ) (tables : Lent) (r : Quantified) (tables' : Lent) : Type 0 where
+pub record QuantifyPromise (file : List ℕ) (tables : Lent) (r : Told) (tables' : Lent) : Type 0 where
   pub hands_back : HandsBack r (ruling_on file tables)
   pub leaves : tables' ≡ lent_after (ruling_on file tables) tables
 
 -- A call was lent some tables, accepted the file, and left these (rule 10.7).
 pub record Left (file plants segments : List ℕ) : Type 0 where
   pub before : Lent
-  pub told : Quantified
-  pub promised : QuantifyPromise file before told (lent plants segments)
-  pub accepting : told.answer ≡ Accepted
+  pub written : Quantified
+  pub promised : QuantifyPromise file before (Ok written) (lent plants segments)

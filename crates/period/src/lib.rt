@@ -9,4 +9,4 @@ pub mod rows;
 
 pub use crate::call::{Quantified, quantify};
 pub use crate::room::answer_with_tables;
-pub use crate::rows::{PLANT_NUMBERS, SEGMENT_NUMBERS, plant_row, segment_row};
+pub use crate::rows::{PLANT_NUMBERS, Row, SEGMENT_NUMBERS, plant_row, segment_row};

@@ -1,12 +1,14 @@
 -- The eight bytes of a number: how many, one by one, and read back; and the number at an index of a table.
 use Prim.Native.Nat.{ℕ, zero, suc, ◌+◌, ◌*◌, ◌/◌, ◌%◌, ◌^◌, ◌≤◌, ◌<◌}
-use mathlib.Core.Path.{◌≡◌, refl, sym, ap, ◌∙◌}
-use mathlib.Core.List.{List, [], ◌∷◌, ◌++◌}
-use native.Mathlib.Nat.{pow-suc, div-lt_iff_lt-mul, mod-add-div}
-use native.Mathlib.Numerals.{add-one, add-two, add-three, add-four, add_five, add_six, add_seven}
+use mathlib.Core.Path.{◌≡◌, refl, sym, ap, ap₂, ◌∙◌}
+use mathlib.Core.List.{List, [], ◌∷◌, ◌++◌, map}
+use native.Mathlib.Nat.{pow-suc, div-lt_iff_lt-mul, mod-add-div, mul_assoc, div-one, div-div-eq-div-mul}
 use native.Mathlib.Omega.{arith}
-use lib.ListN.{length, take, drop, set, get_or}
-use lib.Seq.{sets, sets-eq, drop-drop, drop-cons}
+use lib.ListN.{length, take, drop, get_or, get_or-map}
+use lib.Seq.{sets, sets-eq, drop-drop, take-suc, take_all, length-take-le}
+use Rattle.std.specs.Int.{w64, byte_at, byte_worth, bytes_low_first, sum_through, to_le_bytes, from_le_bytes}
+use Rattle.std.specs.Simd.{first_chunks}
+use Rattle.std.proofs.lemmas.List.{get_or_past}
 use borrow.Author.Tests.{le-leb}
 use Rattle.plain.specs.Bytes.{number_bytes, byte_values, whole_numbers, bytes_of, eight_bytes, value_of, first_numbers, table_numbers, plain_written}
 
@@ -16,19 +18,21 @@ unfolding bytes_of
 length_bytes zero number = refl
 length_bytes (suc count) number = ap suc (length_bytes count (number / byte_values))
 
--- the byte of a number at an index
-abbrev pub byte_at : (index number : ℕ) → ℕ
-byte_at zero number = number % byte_values
-byte_at (suc index) number = byte_at index (number / byte_values)
-
--- set one by one, its eight bytes stand at their place
-pub eight_set :
-    (table : List ℕ) (at number : ℕ) →
-    let b : ℕ → ℕ = λ index. byte_at index number in
-    set (set (set (set (set (set (set (set table at (b 0)) (at + 1) (b 1)) (at + 2) (b 2)) (at + 3) (b 3)) (at + 4) (b 4)) (at + 5) (b 5)) (at + 6) (b 6)) (at + 7) (b 7)
-    ≡ sets table at (eight_bytes number)
+-- they are those that the library gives of a number, from its lowest on
+bytes_from : (count index number : ℕ) → bytes_low_first index count number ≡ bytes_of count (number / byte_values ^ index)
 unfolding bytes_of
-eight_set table at number = rw (add-one, add-two, add-three, add-four, add_five, add_six, add_seven) refl
+bytes_from zero index number = refl
+bytes_from (suc count) index number = ap₂ (λ (byte : ℕ) (bytes : List ℕ). byte ∷ bytes) (low index) (bytes_from count (suc index) number ∙ ap (bytes_of count) (further index))
+  where
+    low : (index : ℕ) → byte_at index number ≡ number / byte_values ^ index % byte_values
+    low zero = rw div-one refl
+    low (suc index) = refl
+
+    further : (index : ℕ) → number / byte_values ^ suc index ≡ number / byte_values ^ index / byte_values
+    further index = rw (pow-suc byte_values index) (sym (div-div-eq-div-mul number (byte_values ^ index) byte_values))
+
+pub library_bytes : (number : ℕ) → to_le_bytes w64 number ≡ eight_bytes number
+library_bytes number = bytes_from number_bytes 0 number ∙ rw div-one refl
 
 -- where there is room, they stand between what was before and behind them
 pub set_between :
@@ -63,58 +67,52 @@ unfolding first_numbers
 first_length zero table = refl
 first_length (suc count) table = ap suc (first_length count (drop number_bytes table))
 
--- each is that of its own eight bytes
-first_at : (count index : ℕ) (table : List ℕ) → index < count → get_or (first_numbers count table) index 0 ≡ value_of (take number_bytes (drop (number_bytes * index) table))
-unfolding first_numbers
-first_at zero index table inside = absurd (omega (arith, inside))
-first_at (suc count) zero table inside = refl
-first_at (suc count) (suc index) table inside =
+-- the eight bytes at an index, as the library divides a table
+pub chunk_at :
+    (count index : ℕ) (table d : List ℕ) → index < count → get_or (first_chunks number_bytes count table) index d ≡ take number_bytes (drop (number_bytes * index) table)
+chunk_at zero index table d inside = absurd (omega (arith, inside))
+chunk_at (suc count) zero table d inside = refl
+chunk_at (suc count) (suc index) table d inside =
     let further : number_bytes * suc index ≡ number_bytes + number_bytes * index = omega arith in
-    first_at count index (drop number_bytes table) (omega (arith, inside))
-    ∙ ap (λ (l : List ℕ). value_of (take number_bytes l)) (drop-drop (number_bytes * index) number_bytes table ∙ ap (λ (n : ℕ). drop n table) (sym further))
+    chunk_at count index (drop number_bytes table) d (omega (arith, inside))
+    ∙ ap (take number_bytes) (drop-drop (number_bytes * index) number_bytes table ∙ ap (λ (n : ℕ). drop n table) (sym further))
+
+-- each number is that of its own eight bytes
+numbers_are : (count : ℕ) (table : List ℕ) → first_numbers count table ≡ map value_of (first_chunks number_bytes count table)
+unfolding first_numbers
+numbers_are zero table = refl
+numbers_are (suc count) table = ap (λ (l : List ℕ). value_of (take number_bytes table) ∷ l) (numbers_are count (drop number_bytes table))
+
+first_at : (count index : ℕ) (table : List ℕ) → index < count → get_or (first_numbers count table) index 0 ≡ value_of (take number_bytes (drop (number_bytes * index) table))
+unfolding value_of
+first_at count index table inside =
+    ap (λ (l : List ℕ). get_or l index 0) (numbers_are count table)
+    ∙ get_or-map value_of (first_chunks number_bytes count table) index []
+    ∙ ap value_of (chunk_at count index table [] inside)
 
 pub table_at : (table : List ℕ) (index : ℕ) → index < whole_numbers table → get_or (table_numbers table) index 0 ≡ value_of (take number_bytes (drop (number_bytes * index) table))
 table_at table index inside = first_at (whole_numbers table) index table inside
 
 -- and behind the last there is none
-get_or_behind : (l : List ℕ) (index : ℕ) → length l ≤ index → get_or l index 0 ≡ 0
-get_or_behind [] zero behind = refl
-get_or_behind [] (suc index) behind = refl
-get_or_behind (x ∷ l) zero behind = absurd (omega (arith, behind))
-get_or_behind (x ∷ l) (suc index) behind = get_or_behind l index (omega (arith, behind))
-
 pub table_behind : (table : List ℕ) (index : ℕ) → whole_numbers table ≤ index → get_or (table_numbers table) index 0 ≡ 0
-table_behind table index behind = get_or_behind (table_numbers table) index (omega (arith, behind, first_length (whole_numbers table) table))
+table_behind table index behind = get_or_past (table_numbers table) index 0 (omega (arith, behind, first_length (whole_numbers table) table))
 
--- ---- eight bytes from a byte on, one by one
--- the first of them
-value_from : (table : List ℕ) (at count : ℕ) → at < length table → value_of (take (suc count) (drop at table)) ≡ get_or table at 0 + byte_values * value_of (take count (drop (suc at) table))
+-- ---- the number of eight bytes, as the library reads it
+-- one byte more counts for the power of its index
+value_last : (bytes : List ℕ) (byte : ℕ) → value_of (bytes ++ byte ∷ []) ≡ value_of bytes + byte * byte_values ^ length bytes
 unfolding value_of
-value_from table at count inside = rw (drop-cons table at 0 inside) refl
+value_last [] byte = omega arith
+value_last (b ∷ bytes) byte =
+    rw (value_last bytes byte, pow-suc byte_values (length bytes))
+    (omega (arith, sym (mul_assoc byte (byte_values ^ length bytes) byte_values)))
 
-pub eight_from :
-    (table : List ℕ) (at : ℕ) → at + number_bytes ≤ length table →
-    let b : ℕ → ℕ = λ index. get_or table (at + index) 0 in
-    let w : ℕ → ℕ = λ index. byte_values ^ index in
-    value_of (take number_bytes (drop at table))
-    ≡ get_or table at 0 + byte_values * b 1 + w 2 * b 2 + w 3 * b 3 + w 4 * b 4 + w 5 * b 5 + w 6 * b 6 + w 7 * b 7
+-- so the first bytes come to the sum over their indices
+value_through : (bytes : List ℕ) (last : ℕ) → last < length bytes → value_of (take (suc last) bytes) ≡ sum_through (λ i. byte_worth i (get_or bytes i 0)) last
 unfolding value_of
-eight_from table at room =
-    rw (
-      add-one,
-      add-two,
-      add-three,
-      add-four,
-      add_five,
-      add_six,
-      add_seven,
-      value_from table at 7 (omega (arith, room)),
-      value_from table (suc at) 6 (omega (arith, room)),
-      value_from table (suc (suc at)) 5 (omega (arith, room)),
-      value_from table (suc (suc (suc at))) 4 (omega (arith, room)),
-      value_from table (suc (suc (suc (suc at)))) 3 (omega (arith, room)),
-      value_from table (suc (suc (suc (suc (suc at))))) 2 (omega (arith, room)),
-      value_from table (suc (suc (suc (suc (suc (suc at)))))) 1 (omega (arith, room)),
-      value_from table (suc (suc (suc (suc (suc (suc (suc at))))))) 0 (omega (arith, room)),
-    )
-    (omega arith)
+value_through [] zero inside = absurd (omega arith)
+value_through (b ∷ bytes) zero inside = omega arith
+value_through bytes (suc last) inside =
+    rw (take-suc bytes (suc last) 0 inside, value_last (take (suc last) bytes) (get_or bytes (suc last) 0), value_through bytes last (omega arith), length-take-le (suc last) bytes (omega arith)) refl
+
+pub library_value : (bytes : List ℕ) → length bytes ≡ number_bytes → from_le_bytes w64 bytes ≡ value_of bytes
+library_value bytes eight = sym (ap value_of (sym (take_all number_bytes bytes (omega arith))) ∙ value_through bytes 7 (omega arith))

@@ -1,63 +1,53 @@
 -- No two outcomes meet a promise of this crate.
-use Prim.Native.Nat.{ℕ}
-use mathlib.Core.Path.{◌≡◌, sym, ap, ap₂, ◌∙◌}
-use mathlib.Core.Bool.{true≢false}
-use mathlib.Core.List.{List}
-use Rattle.fields.specs.declared.answer.Answer.{Answer}
+use Rattle.std.proofs.Common.{◌≡◌, ℕ, List, Option, Ok, Err, sym, ap, ap₂, ◌∙◌, true≢false}
 use Rattle.fields.specs.declared.spot.Spot.{Spot}
+use Rattle.fields.specs.Answers.{Answer}
+use Rattle.fields.specs.Readers.{Reader}
 use Rattle.fields.proofs.Outcome.{refusal_once, said_once}
 use Rattle.records.specs.declared.counts.Counts.{Counts}
-use Rattle.records.specs.declared.header.Header.{Header}
-use Rattle.reading.specs.declared.header.ReadHeader.{ReadHeader}
-use Rattle.reading.specs.declared.plants.ReadPlant.{ReadPlant}
-use Rattle.reading.specs.declared.segments.ReadSegment.{ReadSegment}
-use Rattle.reading.specs.declared.lines.ReadLine.{ReadLine}
-use Rattle.reading.specs.Found.{header_found, plant_found, segment_found, line_found, ReadHeaderPromise, HeaderOfPromise, ReadPlantPromise, ReadSegmentPromise, ReadLinePromise, VerdictPromise}
+use Rattle.records.specs.declared.plant.Plant.{Plant}
+use Rattle.records.specs.declared.segment.Segment.{Segment}
+use Rattle.records.specs.declared.line.Line.{Line}
+use Rattle.reading.specs.Found.{RecordRead, record_found, ReadRecordPromise, ReadRecordsPromise, ReadHeaderPromise, HeaderOfPromise, ReadPlantPromise, ReadSegmentPromise, ReadLinePromise, VerdictPromise}
 
--- ---- what was found, of the header or where a record starts, determines the answer
-header_once : (a b : ReadHeader) → header_found a ≡ header_found b → a ≡ b
-header_once (ReadHeader.Whole one next) (ReadHeader.Whole other next') e = ap₂ ReadHeader.Whole (cc) (cc)
-header_once (ReadHeader.Whole one next) (ReadHeader.Refused b) e = absurd (true≢false (cc))
-header_once (ReadHeader.Refused a) (ReadHeader.Whole other next') e = absurd (true≢false (cc))
-header_once (ReadHeader.Refused a) (ReadHeader.Refused b) e = ap ReadHeader.Refused (refusal_once a b (cc))
+-- what was found, of the header or where a record starts, determines the answer
+found_once : {A : Type 0} (a b : RecordRead A) → record_found a ≡ record_found b → a ≡ b
+found_once {A} (Ok (one, next)) (Ok (other, next')) e = ap₂ (λ (o : A) (n : Spot). Ok (o, n)) (cc) (cc)
+found_once (Ok (one, next)) (Err b) e = absurd (true≢false (cc))
+found_once (Err a) (Ok (other, next')) e = absurd (true≢false (cc))
+found_once (Err a) (Err b) e = ap Err (refusal_once a b (cc))
 
-plant_once : (a b : ReadPlant) → plant_found a ≡ plant_found b → a ≡ b
-plant_once (ReadPlant.Whole one next) (ReadPlant.Whole other next') e = ap₂ ReadPlant.Whole (cc) (cc)
-plant_once (ReadPlant.Whole one next) (ReadPlant.Refused b) e = absurd (true≢false (cc))
-plant_once (ReadPlant.Refused a) (ReadPlant.Whole other next') e = absurd (true≢false (cc))
-plant_once (ReadPlant.Refused a) (ReadPlant.Refused b) e = ap ReadPlant.Refused (refusal_once a b (cc))
+-- `read_record`: two answers that meet its promise, of one file at one spot and by one reader, are the same
+pub one_record :
+    {A : Type 0} (reader : Reader A) (file : List ℕ) (start : Spot) (r s : RecordRead A) → ReadRecordPromise reader file start r →
+    ReadRecordPromise reader file start s → r ≡ s
+one_record reader file start r s p q = found_once r s (p ∙ sym q)
 
-segment_once : (a b : ReadSegment) → segment_found a ≡ segment_found b → a ≡ b
-segment_once (ReadSegment.Whole one next) (ReadSegment.Whole other next') e = ap₂ ReadSegment.Whole (cc) (cc)
-segment_once (ReadSegment.Whole one next) (ReadSegment.Refused b) e = absurd (true≢false (cc))
-segment_once (ReadSegment.Refused a) (ReadSegment.Whole other next') e = absurd (true≢false (cc))
-segment_once (ReadSegment.Refused a) (ReadSegment.Refused b) e = ap ReadSegment.Refused (refusal_once a b (cc))
+-- `read_records`: so are two of its answers
+pub one_records :
+    {A : Type 0} (one : ℕ → Reader A) (none : A) (room count : ℕ) (file : List ℕ) (start : Spot) (r s : RecordRead (List A)) →
+    ReadRecordsPromise one none room count file start r → ReadRecordsPromise one none room count file start s → r ≡ s
+one_records one none room count file start r s p q = found_once r s (p ∙ sym q)
 
-line_once : (a b : ReadLine) → line_found a ≡ line_found b → a ≡ b
-line_once (ReadLine.Whole one next) (ReadLine.Whole other next') e = ap₂ ReadLine.Whole (cc) (cc)
-line_once (ReadLine.Whole one next) (ReadLine.Refused b) e = absurd (true≢false (cc))
-line_once (ReadLine.Refused a) (ReadLine.Whole other next') e = absurd (true≢false (cc))
-line_once (ReadLine.Refused a) (ReadLine.Refused b) e = ap ReadLine.Refused (refusal_once a b (cc))
+-- `read_header`: so are two of its answers, of one file
+pub one_header_read : (file : List ℕ) (r s : RecordRead Counts) → ReadHeaderPromise file r → ReadHeaderPromise file s → r ≡ s
+one_header_read file r s p q = found_once r s (p ∙ sym q)
 
--- `read_header`: two answers that meet its promise, of one file, are the same
-pub one_header_read : (file : List ℕ) (r s : ReadHeader) → ReadHeaderPromise file r → ReadHeaderPromise file s → r ≡ s
-one_header_read file r s p q = header_once r s (p ∙ sym q)
-
--- `read_plant`, `read_segment` and `read_line`: so are two of their answers, of one file at one spot and by one header's counts
+-- `read_record` of a plant, a segment and a line: so are two of its answers, of one file at one spot and by one header's counts
 module _ (file : List ℕ) (start : Spot) (counts : Counts) where
-  pub one_plant : (r s : ReadPlant) → ReadPlantPromise file start counts r → ReadPlantPromise file start counts s → r ≡ s
-  one_plant r s p q = plant_once r s (p ∙ sym q)
+  pub one_plant : (r s : RecordRead Plant) → ReadPlantPromise file start counts r → ReadPlantPromise file start counts s → r ≡ s
+  one_plant r s p q = found_once r s (p ∙ sym q)
 
-  pub one_segment : (own : ℕ) (r s : ReadSegment) → ReadSegmentPromise file start own counts r → ReadSegmentPromise file start own counts s → r ≡ s
-  one_segment own r s p q = segment_once r s (p ∙ sym q)
+  pub one_segment : (own : ℕ) (r s : RecordRead Segment) → ReadSegmentPromise file start own counts r → ReadSegmentPromise file start own counts s → r ≡ s
+  one_segment own r s p q = found_once r s (p ∙ sym q)
 
-  pub one_line : (r s : ReadLine) → ReadLinePromise file start counts r → ReadLinePromise file start counts s → r ≡ s
-  one_line r s p q = line_once r s (p ∙ sym q)
+  pub one_line : (r s : RecordRead Line) → ReadLinePromise file start counts r → ReadLinePromise file start counts s → r ≡ s
+  one_line r s p q = found_once r s (p ∙ sym q)
 
 -- `verdict`: so are two of its answers, of one file
 pub one_verdict : (file : List ℕ) (r s : Answer) → VerdictPromise file r → VerdictPromise file s → r ≡ s
 one_verdict file r s p q = said_once r s (p ∙ sym q)
 
 -- `header_of`: its promise gives the result itself
-pub one_header : (file : List ℕ) (r s : Header) → HeaderOfPromise file r → HeaderOfPromise file s → r ≡ s
+pub one_header : (file : List ℕ) (r s : Option Counts) → HeaderOfPromise file r → HeaderOfPromise file s → r ≡ s
 one_header file r s p q = p ∙ sym q

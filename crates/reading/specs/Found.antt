@@ -1,63 +1,67 @@
 -- What the code says that it found in a file, part by part: its header, or a record where one starts.
-use Rattle.std.specs.Prelude.{ℕ, ◌≡◌, List}
-use Rattle.fields.specs.declared.answer.Answer.{Answer}
+use Rattle.std.specs.Prelude.{ℕ, ◌≡◌, min, List, Option, Result, Ok, Err}
+use Rattle.fields.specs.declared.answer.Refusal.{Refusal}
 use Rattle.fields.specs.declared.spot.Spot.{Spot}
-use Rattle.fields.specs.Answers.{said}
+use Rattle.fields.specs.Answers.{Answer, said}
 use Rattle.fields.specs.Spots.{first_spot}
-use Rattle.fields.specs.Reaching.{Reach, reads_from, whole, stopped_by}
+use Rattle.fields.specs.Readers.{Reader, each}
+use Rattle.fields.specs.Lists.{filled}
+use Rattle.fields.specs.Reaching.{Reach, whole, stopped, reads_from, stopped_by}
 use Rattle.records.specs.declared.counts.Counts.{Counts}
-use Rattle.records.specs.declared.header.Header.{Header}
 use Rattle.records.specs.declared.plant.Plant.{Plant}
 use Rattle.records.specs.declared.segment.Segment.{Segment}
 use Rattle.records.specs.declared.line.Line.{Line}
+use Rattle.records.specs.declared.record.Among.{Among}
 use Rattle.records.specs.Headers.{header, header_of}
 use Rattle.records.specs.Periods as periods
 use Rattle.records.specs.Periods.{period_verdict}
-use Rattle.reading.specs.declared.header.ReadHeader.{ReadHeader}
-use Rattle.reading.specs.declared.plants.ReadPlant.{ReadPlant}
-use Rattle.reading.specs.declared.segments.ReadSegment.{ReadSegment}
-use Rattle.reading.specs.declared.lines.ReadLine.{ReadLine}
 
--- The counts of the header, with the spot of the first record; or a refusal.
-abbrev pub header_found : ReadHeader → Reach Counts
-header_found (ReadHeader.Whole counts next) = whole counts next
-header_found (ReadHeader.Refused refusal) = stopped_by refusal
+-- What the code found of a record: the record, with the spot of the next one; or a refusal.
+abbrev pub RecordRead : Type 0 → Type 0
+RecordRead A = Result (A × Spot) Refusal
 
--- A plant, with the spot of the next record; or a refusal.
-abbrev pub plant_found : ReadPlant → Reach Plant
-plant_found (ReadPlant.Whole plant next) = whole plant next
-plant_found (ReadPlant.Refused refusal) = stopped_by refusal
+-- What it says of it.
+abbrev pub record_found : {A : Type 0} → RecordRead A → Reach A
+record_found (Ok (record_read, next)) = whole record_read next
+record_found (Err refusal) = stopped_by refusal
 
--- A segment, in the same way.
-abbrev pub segment_found : ReadSegment → Reach Segment
-segment_found (ReadSegment.Whole segment next) = whole segment next
-segment_found (ReadSegment.Refused refusal) = stopped_by refusal
+-- The readers of a kind of record by the records' own numbers.
+abbrev pub numbered : {A : Type 0} → (Among → Reader A) → Counts → ℕ → Reader A
+numbered reader counts own = reader (record { own = own; counts = counts })
 
--- A line, in the same way.
-abbrev pub line_found : ReadLine → Reach Line
-line_found (ReadLine.Whole line next) = whole line next
-line_found (ReadLine.Refused refusal) = stopped_by refusal
+-- Records that were read, in an array with a given room; the entries behind them are `none`.
+abbrev pub in_array : {A : Type 0} → A → ℕ → Reach (List A) → Reach (List A)
+in_array none room (whole records next) = whole (filled none room records) next
+in_array none room (stopped notice) = stopped notice
 
 -- ---- what the public functions promise
+-- `read_record`: what the reader of that kind of record gives, from any spot of a file on (rules 2.2 and 8.3).
+abbrev pub ReadRecordPromise : {A : Type 0} → Reader A → (file : List ℕ) → Spot → RecordRead A → Type 0
+ReadRecordPromise reader file start r = record_found r ≡ reads_from reader file start
+
+-- `read_records`: a count of records of a kind, numbered from 1, as many as there is room for (rules 2.2 and 8.3).
+abbrev pub ReadRecordsPromise : {A : Type 0} → (ℕ → Reader A) → (none : A) (room count : ℕ) (file : List ℕ) → Spot → RecordRead (List A) → Type 0
+ReadRecordsPromise one none room count file start r = record_found r ≡ in_array none room (reads_from (each one 1 (min count room)) file start)
+
+-- `read_record` of a plant, by any counts (rules 2.4 and 8.3).
+abbrev pub ReadPlantPromise : (file : List ℕ) → Spot → Counts → RecordRead Plant → Type 0
+ReadPlantPromise file start counts = ReadRecordPromise (periods.plant counts) file start
+
+-- Of a segment, in the same way, and by any number of its own (rules 2.5 to 2.7 and 8.3).
+abbrev pub ReadSegmentPromise : (file : List ℕ) → Spot → (own : ℕ) → Counts → RecordRead Segment → Type 0
+ReadSegmentPromise file start own counts = ReadRecordPromise (periods.segment counts own) file start
+
+-- Of a line, in the same way (rules 2.8, 3.2 and 8.3).
+abbrev pub ReadLinePromise : (file : List ℕ) → Spot → Counts → RecordRead Line → Type 0
+ReadLinePromise file start counts = ReadRecordPromise (periods.line counts) file start
+
 -- `read_header`: the header, from the first spot on (rules 2.3 and 8.3).
-abbrev pub ReadHeaderPromise : (file : List ℕ) → ReadHeader → Type 0
-ReadHeaderPromise file r = header_found r ≡ reads_from header file first_spot
+abbrev pub ReadHeaderPromise : (file : List ℕ) → RecordRead Counts → Type 0
+ReadHeaderPromise file = ReadRecordPromise header file first_spot
 
 -- `header_of`: what the header tells (rules 2.3 and 11.5).
-abbrev pub HeaderOfPromise : (file : List ℕ) → Header → Type 0
+abbrev pub HeaderOfPromise : (file : List ℕ) → Option Counts → Type 0
 HeaderOfPromise file r = r ≡ header_of file
-
--- `read_plant`: a plant, from any spot of a file on and by any counts (rules 2.4 and 8.3).
-abbrev pub ReadPlantPromise : (file : List ℕ) → Spot → Counts → ReadPlant → Type 0
-ReadPlantPromise file start counts r = plant_found r ≡ reads_from (periods.plant counts) file start
-
--- `read_segment`: a segment, in the same way, and by any number of its own (rules 2.5 to 2.7 and 8.3).
-abbrev pub ReadSegmentPromise : (file : List ℕ) → Spot → (own : ℕ) → Counts → ReadSegment → Type 0
-ReadSegmentPromise file start own counts r = segment_found r ≡ reads_from (periods.segment counts own) file start
-
--- `read_line`: a line, in the same way (rules 2.8, 3.2 and 8.3).
-abbrev pub ReadLinePromise : (file : List ℕ) → Spot → Counts → ReadLine → Type 0
-ReadLinePromise file start counts r = line_found r ≡ reads_from (periods.line counts) file start
 
 -- `verdict`: what reading says of the file (rules 8.1 to 8.4 and 8.9).
 abbrev pub VerdictPromise : (file : List ℕ) → Answer → Type 0

@@ -5,13 +5,9 @@
 #![tactic(auto)]
 
 pub mod header;
-pub mod lines;
-pub mod plants;
-pub mod segments;
+pub mod record;
 pub mod whole;
 
-pub use crate::header::{ReadHeader, header_of, read_header};
-pub use crate::lines::{ReadLine, read_line};
-pub use crate::plants::{ReadPlant, read_plant};
-pub use crate::segments::{ReadSegment, read_segment};
-pub use crate::whole::{ReadRecords, verdict};
+pub use crate::header::{header_of, read_header};
+pub use crate::record::{read_record, read_records};
+pub use crate::whole::verdict;

@@ -1,7 +1,7 @@
 -- The rules of the class table, each proved once over the whole table, and what follows for every code.
 use Prim.Native.Nat.{ℕ, zero, suc, ◌+◌, ◌-◌, ◌≤◌, ◌<◌}
 use mathlib.Core.Path.{◌≡◌, refl, sym, ap, ◌∙◌}
-use mathlib.Core.Bool.{Bool, true, false, cond, ◌&&◌, not, beq, and-false, or-false, true≢false}
+use mathlib.Core.Bool.{Bool, true, false, cond, ◌&&◌, not, beq, and-false, true≢false}
 use mathlib.Core.Logic.{◌⊎◌, inl, inr, ⊎_elim}
 use mathlib.Core.List.{List, [], ◌∷◌}
 use native.Mathlib.Decide.{dec_le}
@@ -47,11 +47,6 @@ not_found (class ∷ rest) first code t outside =
     rw (ne_eqb class.code code (λ e. ⊎_elim (λ p. omega (arith, p)) (λ p. omega (arith, p)) outside))
     (not_found rest (suc first) code in_place.1 (⊎_elim (λ p. inl (omega (arith, p))) (λ p. inr (omega (arith, p))) outside))
 
--- the code of a row
-pub code_at : (row : ℕ) → row < length classes → (get_or classes row no_class).code ≡ first_code + row
-unfolding in_order classes
-code_at row h = eqb→eq (get_or classes row no_class).code (first_code + row) (at_row in_order first_code classes no_class tt row h)
-
 -- the row of a code that the table has
 pub row_of_lem : (code : ℕ) → first_code ≤ code → code ≤ length classes → get_or classes (code - first_code) no_class ≡ class_of code
 unfolding in_order classes class_of
@@ -64,19 +59,9 @@ pub no_row : (code : ℕ) → (code < first_code) ⊎ (length classes < code) �
 unfolding in_order classes class_of
 no_row code outside = not_found classes first_code code tt (⊎_elim (λ p. inl (omega (arith, p))) (λ p. inr (omega (arith, p))) outside)
 
--- ---- whom a row allows its class to, by the owner's kind
-module _ (class : Class) (owner_kind : ℕ) where
-  -- a plant
-  pub allows_plant : owner_kind ≡ plant_owner → class.plant ≡ allows class owner_kind
-  allows_plant e = rw (eq-eqb owner_kind plant_owner e, ne_eqb owner_kind segment_owner (λ h. omega arith)) (sym (or-false class.plant))
-
-  -- a segment
-  pub allows_segment : owner_kind ≡ segment_owner → class.segment ≡ allows class owner_kind
-  allows_segment e = rw (ne_eqb owner_kind plant_owner (λ h. omega arith), eq-eqb owner_kind segment_owner e) refl
-
-  -- neither
-  pub allows_neither : (owner_kind ≡ plant_owner → ⊥) → (owner_kind ≡ segment_owner → ⊥) → false ≡ allows class owner_kind
-  allows_neither p q = rw (ne_eqb owner_kind plant_owner p, ne_eqb owner_kind segment_owner q) refl
+-- ---- whether a row allows its class to a segment
+allows_segment : (class : Class) (owner_kind : ℕ) → owner_kind ≡ segment_owner → class.segment ≡ allows class owner_kind
+allows_segment class owner_kind e = rw (ne_eqb owner_kind plant_owner (λ h. omega arith), eq-eqb owner_kind segment_owner e) refl
 
 -- ---- nobody is allowed a class that the table does not have
 pub not_allowed : (owner_kind code : ℕ) → (code < first_code) ⊎ (length classes < code) → class_allowed owner_kind code ≡ false

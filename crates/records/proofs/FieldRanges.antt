@@ -8,7 +8,7 @@ use native.Mathlib.Omega.{arith}
 use lib.Dec.{eqb}
 use borrow.Author.Tests.{eq-eqb, ne_eqb, eqb-true, eqb-false}
 use Rattle.fields.specs.Ranges.{within}
-use Rattle.fields.proofs.Ranges.{in_range, below_range, above_range, either, second, at_most, at_least}
+use Rattle.fields.proofs.Ranges.{in_range, above_range, either, second, at_most, at_least}
 use Rattle.records.specs.declared.counts.Counts.{Counts}
 use Rattle.records.specs.Segments.{kind_allowed, next_allowed, pipeline, intermediate_storage, store}
 use Rattle.records.specs.Classes.{plant_owner, segment_owner}
@@ -54,14 +54,6 @@ module _ (counts : Counts) (own kind next : ℕ) where
   pub next_none : kind ≡ store → next_allowed counts own kind next ≡ eqb next 0
   next_none e = rw (above_range pipeline intermediate_storage kind (omega arith), eq-eqb kind store e) refl
 
-  -- no kind: below the first
-  pub next_below : kind < pipeline → next_allowed counts own kind next ≡ false
-  next_below p = rw (below_range pipeline intermediate_storage kind p, ne_eqb kind store (λ e. omega arith)) refl
-
-  -- or above the last
-  pub next_above : intermediate_storage < kind → (kind ≡ store → ⊥) → next_allowed counts own kind next ≡ false
-  next_above p q = rw (above_range pipeline intermediate_storage kind p, ne_eqb kind store q) refl
-
 -- ---- the owner, by its kind
 module _ (counts : Counts) (owner_kind owner : ℕ) where
   -- a plant
@@ -71,10 +63,6 @@ module _ (counts : Counts) (owner_kind owner : ℕ) where
   -- a segment
   pub owner_segment : owner_kind ≡ segment_owner → owner_allowed counts owner_kind owner ≡ within 1 counts.segments owner
   owner_segment e = rw (ne_eqb owner_kind plant_owner (λ h. omega arith), eq-eqb owner_kind segment_owner e) refl
-
-  -- neither
-  pub owner_neither : (owner_kind ≡ plant_owner → ⊥) → (owner_kind ≡ segment_owner → ⊥) → owner_allowed counts owner_kind owner ≡ false
-  owner_neither p q = rw (ne_eqb owner_kind plant_owner p, ne_eqb owner_kind segment_owner q) refl
 
 -- ---- what they are if the test passed: the next segment, by the kind
 pub next_is :

@@ -1,37 +1,18 @@
--- The fields of the header by their index: with which reasons it needs its numbers, what each is tested for, and the counts that they make.
-use Prim.Native.Nat.{ℕ, zero, suc, ◌<◌}
+-- The fields of the header by their index: what each is tested for, and the counts that the numbers make that an array has in front.
+use Prim.Native.Nat.{ℕ, zero, suc}
 use mathlib.Core.Path.{◌≡◌, refl, ap}
 use mathlib.Core.Bool.{Bool, true}
 use mathlib.Core.List.{List, [], ◌∷◌}
-use native.Mathlib.Omega.{arith}
 use lib.Dec.{eqb}
-use lib.ListN.{length, get_or}
-use Rattle.fields.specs.declared.reason.Reason.{Reason}
-use Rattle.fields.specs.declared.reason.Reason.TheVariants.{Ends, WrongEdition, WrongCount}
+use lib.ListN.{length, take}
 use Rattle.fields.specs.Ranges.{any_amount}
 use Rattle.fields.specs.Readers.{return, onward, allows_next}
 use Rattle.fields.proofs.ByIndex.{number, spelt, spelt_out}
-use Rattle.fields.proofs.OneRecord.{Wants}
 use Rattle.records.specs.declared.counts.Counts.{Counts}
 use Rattle.records.specs.Plants.{plants_allowed}
 use Rattle.records.specs.Segments.{segments_allowed}
-use Rattle.records.specs.Lines.{lines_allowed}
+use Rattle.records.specs.Lines.{line_fields, lines_allowed}
 use Rattle.records.specs.Headers.{edition, announced, header, header_fields}
-use Rattle.records.specs.FieldTests.{header_reason}
-
-abbrev pub header_reasons : List Reason
-header_reasons = WrongEdition ∷ WrongCount ∷ WrongCount ∷ WrongCount ∷ []
-
-pub header_reason_lem : (field : ℕ) → field < header_fields → get_or header_reasons field Ends ≡ header_reason field
-header_reason_lem zero here = refl
-header_reason_lem (suc zero) here = refl
-header_reason_lem (suc (suc zero)) here = refl
-header_reason_lem (suc (suc (suc zero))) here = refl
-header_reason_lem (suc (suc (suc (suc behind)))) here = absurd (omega (arith, here))
-
-pub header_wants : Wants header_reasons header
-unfolding Wants header
-header_wants = (refl, λ _. (refl, λ _. (refl, λ _. (refl, λ _. tt))))
 
 -- what each field is tested for
 abbrev pub header_test : ℕ → ℕ → Bool
@@ -59,11 +40,11 @@ header_any (suc (suc zero)) v a b c d = absurd (c refl)
 header_any (suc (suc (suc zero))) v a b c d = absurd (d refl)
 header_any (suc (suc (suc (suc behind)))) v a b c d = refl
 
-module _ (values : List ℕ) (sized : length values ≡ header_fields) where
+module _ (values : List ℕ) (sized : length values ≡ line_fields) where
   abbrev counted : Counts
   counted = announced (number values 1) (number values 2) (number values 3)
 
   -- the counts that it makes
-  pub header_made : onward header values ≡ return counted
+  pub header_made : onward header (take header_fields values) ≡ return counted
   unfolding spelt onward header
-  header_made = ap (onward header) (spelt_out values header_fields sized)
+  header_made = ap (λ (l : List ℕ). onward header (take header_fields l)) (spelt_out values line_fields sized)

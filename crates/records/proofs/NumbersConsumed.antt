@@ -4,6 +4,7 @@ use mathlib.Core.Path.{◌≡◌, refl, sym, ap, ◌∙◌}
 use mathlib.Core.Bool.{true≢false}
 use mathlib.Core.List.{List, [], ◌∷◌, ◌++◌, append-nil}
 use borrow.Author.Tests.{eqb-true}
+use Rattle.std.proofs.Common.{Some}
 use Rattle.fields.specs.Readers.{each, Read, read, refused, reads, consumes}
 use Rattle.fields.specs.Lists.{in_turn}
 use Rattle.fields.proofs.FieldByField.{goes_over}
@@ -11,7 +12,6 @@ use Rattle.fields.proofs.EndOfFile.{after_read, after_refused}
 use Rattle.fields.proofs.Along.{Came, came, comes_to}
 use Rattle.fields.proofs.Consumed.{Gives, consumed_has, gives_on, gives_then, Consumes, consumes_each}
 use Rattle.records.specs.declared.counts.Counts.{Counts}
-use Rattle.records.specs.declared.header.Header.TheVariants.{Tells}
 use Rattle.records.specs.Headers.{edition, header, telling, header_of}
 use Rattle.records.specs.Periods.{Period, plant, segment, line, records, period}
 use Rattle.records.specs.Within.{counts_of}
@@ -66,16 +66,16 @@ numbers_consumed file e =
 
 -- and the header of a file that was read tells how many records its period has
 pub header_told :
-    {what : Period} {place at : ℕ} (file : List ℕ) → reads period file 0 0 ≡ read what place at → header_of file ≡ Tells (counts_of what)
+    {what : Period} {place at : ℕ} (file : List ℕ) → reads period file 0 0 ≡ read what place at → header_of file ≡ Some (counts_of what)
 unfolding header_of period
 header_told {what} file whole = by_header (reads header file 0 0) refl (comes_to (header_along file))
   where
     by_header :
         (outcome : Read Counts) → reads header file 0 0 ≡ outcome → Came file (Placed HeaderField) HeaderRead outcome →
-        telling outcome ≡ Tells (counts_of what)
+        telling outcome ≡ Some (counts_of what)
     by_header (read h end at) e (came its) =
         let on = sym (after_read header records file 0 0 h end at e) ∙ whole in
         let are = consumed_has (Announced h) (records_take h) (rw on at (goes_over file (records h) end at)) in
-        ap Tells (sym are.counted)
+        ap Some (sym are.counted)
     by_header (refused notice) e its =
         absurd (true≢false (cc (after_refused header records file 0 0 notice e, whole)))

@@ -1,18 +1,16 @@
--- The fields of each kind of record by their index: how many numbers it needs and with which reason, what each is tested for, what its
--- numbers make, and that they fit it.
+-- The fields of each kind of record by their index: what each is tested for, what the numbers make that an array for the longest record
+-- has in front, and that they fit it.
 use Prim.Native.Nat.{ℕ, zero, suc, ◌≤◌}
 use mathlib.Core.Path.{◌≡◌, refl, ap}
 use mathlib.Core.Bool.{Bool, true}
 use mathlib.Core.List.{List, [], ◌∷◌}
-use lib.ListN.{length, replicate}
+use lib.ListN.{length, take}
 use borrow.Author.Tests.{leb-true}
 use Rattle.number.specs.Groups.{largest}
-use Rattle.fields.specs.declared.reason.Reason.{Reason}
-use Rattle.fields.specs.declared.reason.Reason.TheVariants.{WrongPlant, WrongSegment, WrongLine}
 use Rattle.fields.specs.Ranges.{any_amount}
 use Rattle.fields.specs.Readers.{return, onward, allows_next}
 use Rattle.fields.proofs.ByIndex.{number, spelt, spelt_out}
-use Rattle.fields.proofs.OneRecord.{Wants, Allowed}
+use Rattle.fields.specs.Wanting.{Allowed}
 use Rattle.fields.proofs.Ranges.{at_most}
 use Rattle.records.specs.declared.counts.Counts.{Counts}
 use Rattle.records.specs.Plants.{plant_fields, millionths, first_allowed, fraction_allowed, plant_of}
@@ -24,13 +22,6 @@ use Rattle.records.proofs.Classes.{code_within, factor_at_most}
 
 module _ (counts : Counts) where
   -- ---- a plant
-  abbrev pub plant_reasons : List Reason
-  plant_reasons = replicate plant_fields WrongPlant
-
-  pub plant_wants : Wants plant_reasons (plant counts)
-  unfolding Wants plant
-  plant_wants = (refl, λ _. (refl, λ _. (refl, λ _. tt)))
-
   -- what each field is tested for
   abbrev pub plant_test : ℕ → ℕ → Bool
   plant_test zero = any_amount
@@ -53,29 +44,22 @@ module _ (counts : Counts) where
   plant_any (suc (suc zero)) v b c = absurd (c refl)
   plant_any (suc (suc (suc behind))) v b c = refl
 
-  module _ (values : List ℕ) (sized : length values ≡ plant_fields) where
+  module _ (values : List ℕ) (sized : length values ≡ line_fields) where
     -- the plant that it makes
-    pub plant_made : onward (plant counts) values ≡ return (plant_of (number values 0) (number values 1) (number values 2))
+    pub plant_made : onward (plant counts) (take plant_fields values) ≡ return (plant_of (number values 0) (number values 1) (number values 2))
     unfolding spelt onward plant
-    plant_made = ap (onward (plant counts)) (spelt_out values plant_fields sized)
+    plant_made = ap (λ (l : List ℕ). onward (plant counts) (take plant_fields l)) (spelt_out values line_fields sized)
 
     -- whose fields fit it
     pub plant_fits :
-        Allowed (plant counts) values → (number values 0 ≤ largest) × (number values 1 ≤ largest) × (number values 2 ≤ millionths)
+        Allowed (plant counts) (take plant_fields values) → (number values 0 ≤ largest) × (number values 1 ≤ largest) × (number values 2 ≤ millionths)
     unfolding spelt Allowed plant
     plant_fits passed =
-        let (exported, _, (first, _, (_, fraction, _))) = rw (spelt_out values plant_fields sized) at passed in
+        let (exported, _, (first, _, (_, fraction, _))) = rw (spelt_out values line_fields sized) at passed in
         (exported, first, leb-true (number values 2) millionths fraction)
 
   -- ---- the segment with its own number
   module _ (own : ℕ) where
-    abbrev pub segment_reasons : List Reason
-    segment_reasons = replicate segment_fields WrongSegment
-
-    pub segment_wants : Wants segment_reasons (segment counts own)
-    unfolding Wants segment
-    segment_wants = (refl, λ _. (refl, λ _. (refl, λ _. tt)))
-
     -- what each field is tested for; the kind is the first number
     abbrev pub segment_test : (kind field : ℕ) → ℕ → Bool
     segment_test kind zero = kind_allowed
@@ -99,28 +83,21 @@ module _ (counts : Counts) where
     segment_any kind (suc (suc zero)) v a c = absurd (c refl)
     segment_any kind (suc (suc (suc behind))) v a c = refl
 
-    module _ (values : List ℕ) (sized : length values ≡ segment_fields) where
+    module _ (values : List ℕ) (sized : length values ≡ line_fields) where
       -- the segment that it makes
-      pub segment_made : onward (segment counts own) values ≡ return (segment_of (number values 0) (number values 1) (number values 2))
+      pub segment_made : onward (segment counts own) (take segment_fields values) ≡ return (segment_of (number values 0) (number values 1) (number values 2))
       unfolding spelt onward segment
-      segment_made = ap (onward (segment counts own)) (spelt_out values segment_fields sized)
+      segment_made = ap (λ (l : List ℕ). onward (segment counts own) (take segment_fields l)) (spelt_out values line_fields sized)
 
       -- whose fields fit it
       pub segment_fits :
-          Allowed (segment counts own) values → (number values 0 ≤ store) × (number values 1 ≤ largest) × (number values 2 ≤ largest)
+          Allowed (segment counts own) (take segment_fields values) → (number values 0 ≤ store) × (number values 1 ≤ largest) × (number values 2 ≤ largest)
       unfolding spelt Allowed segment
       segment_fits passed =
-          let (_, kind, (outflow, _, (next, _, _))) = rw (spelt_out values segment_fields sized) at passed in
+          let (_, kind, (outflow, _, (next, _, _))) = rw (spelt_out values line_fields sized) at passed in
           (at_most pipeline store (number values 0) kind, outflow, next)
 
   -- ---- a line
-  abbrev pub line_reasons : List Reason
-  line_reasons = replicate line_fields WrongLine
-
-  pub line_wants : Wants line_reasons (line counts)
-  unfolding Wants line
-  line_wants = (refl, λ _. (refl, λ _. (refl, λ _. (refl, λ _. (refl, λ _. tt)))))
-
   -- what each field is tested for; the owner's kind is the first number, the class the third
   abbrev pub line_test : (owner_kind class field : ℕ) → ℕ → Bool
   line_test owner_kind class zero = owner_kind_allowed
@@ -153,14 +130,14 @@ module _ (counts : Counts) where
   module _ (values : List ℕ) (sized : length values ≡ line_fields) where
     -- the line that it makes
     pub line_made :
-        onward (line counts) values
+        onward (line counts) (take line_fields values)
         ≡ return (line_of (number values 0) (number values 1) (number values 2) (number values 3) (number values 4))
     unfolding spelt onward line
-    line_made = ap (onward (line counts)) (spelt_out values line_fields sized)
+    line_made = ap (λ (l : List ℕ). onward (line counts) (take line_fields l)) (spelt_out values line_fields sized)
 
     -- whose fields fit it
     pub line_fits :
-        Allowed (line counts) values →
+        Allowed (line counts) (take line_fields values) →
         (number values 0 ≤ segment_owner)
         × (number values 1 ≤ largest)
         × (number values 2 ≤ length classes)

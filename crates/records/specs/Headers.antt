@@ -1,10 +1,8 @@
 -- The header: the edition, then P, S and L, how many plants, segments and lines follow.
-use Rattle.std.specs.Prelude.{ℕ, ◌+◌, List, eqb}
+use Rattle.std.specs.Prelude.{ℕ, ◌+◌, List, eqb, Option, Some, None}
 use Rattle.fields.specs.declared.reason.Reason.TheVariants.{WrongEdition, WrongCount}
 use Rattle.fields.specs.Readers.{Reader, return, field, ◌>>=◌, Read, read, refused, reads}
 use Rattle.records.specs.declared.counts.Counts.{Counts}
-use Rattle.records.specs.declared.header.Header.{Header}
-use Rattle.records.specs.declared.header.Header.TheVariants.{Tells, TellsNothing}
 use Rattle.records.specs.Plants.{plants_allowed}
 use Rattle.records.specs.Segments.{segments_allowed}
 use Rattle.records.specs.Lines.{lines_allowed}
@@ -35,10 +33,10 @@ abbrev pub header_bytes : ℕ
 header_bytes = 1 + 1 + 1 + 2
 
 -- What a header tells of the records behind it: the counts that were read; if it is refused, nothing.
-abbrev pub telling : Read Counts → Header
-telling (read counts place at) = Tells counts
-telling (refused notice) = TellsNothing
+abbrev pub telling : Read Counts → Option Counts
+telling (read counts place at) = Some counts
+telling (refused notice) = None
 
 -- What the header of a file tells, whatever is behind it (rules 2.3 and 11.5).
-unfoldable pub header_of : List ℕ → Header
+unfoldable pub header_of : List ℕ → Option Counts
 header_of file = telling (reads header file 0 0)

@@ -15,3 +15,4 @@ pub mod Held
 -- the code's limits and tests in these terms
 pub mod Limits
 pub mod FieldTests
+pub mod Kinds

@@ -23,28 +23,23 @@ pub struct Class {
 impl Class {
     // How many rows the table has.
     pub const ROWS: usize = 9;
-    // The codes of its first row and its last.
-    pub const FIRST: u64 = 1;
-
+    // The code of its last row; the first has 1.
     pub const LAST: u64 = Class::ROWS as u64;
     // The largest factor, and the only one of what is captured, whose quantity is CO2 in kg (rule 3.3).
     pub const LARGEST_FACTOR: u64 = 1_000_000_000;
 
     pub const GRAMS_IN_KG: u64 = 1000;
 
-    // The first row with a code; if the table has none, a row without owners, whose grams count nowhere (rules 3.2 and 3.4). The compiler unrolls the
-    // search and keeps of the table what the caller asks for: finding a row by its index takes longer, since the table is copied first.
+    // The first row with a code; if the table has none, a row without owners, whose grams count nowhere, so that no caller has a case of its own
+    // for it (rules 3.2 and 3.4). The compiler unrolls the search and keeps of the table what the caller asks for: finding a row by its index
+    // takes longer, since the table is copied first.
     pub fn of(code: u64) -> Class
         ensures { ClassPromise code result }
     {
-        let classes = CLASSES;
-        let mut row = 0;
-        while row < Class::ROWS {
-            let class = classes[row];
+        for class in CLASSES {
             if class.code as u64 == code {
                 return class;
             }
-            row += 1;
         }
         Class::none()
     }
@@ -53,15 +48,9 @@ impl Class {
     pub(crate) fn allowed(code: u64, owner_kind: u64) -> bool
         ensures { result ≡ class_allowed owner_kind code }
     {
-        match code {
-            Class::FIRST..=Class::LAST => {
-                let class = Class::of(code);
-                match owner_kind {
-                    Plant::OWNER_KIND => class.plant,
-                    Segment::OWNER_KIND => class.segment,
-                    _ => false,
-                }
-            }
+        match owner_kind {
+            Plant::OWNER_KIND => Class::of(code).plant,
+            Segment::OWNER_KIND => Class::of(code).segment,
             _ => false,
         }
     }

@@ -1,20 +1,13 @@
 // The header: the edition, and how many plants, segments and lines follow (rule 2.3).
 ghost use Rattle.records.specs.FieldTests.{HeaderAllows, HeaderReason};
 
-use crate::counts::Counts;
 use crate::line::Line;
 use crate::plant::Plant;
 use crate::segment::Segment;
 use fields::Reason;
 
-// What the header of a file tells of the records behind it.
-#[derive(Clone, Copy)]
-pub enum Header {
-    // How many there are of each kind.
-    Tells(Counts),
-    // Nothing: one of its numbers is not there, or not allowed.
-    TellsNothing,
-}
+// The name of its constants and tests. What it tells of the records behind it are `Counts`.
+pub struct Header;
 
 impl Header {
     // The edition that is read here (rule 2.3).

@@ -10,6 +10,7 @@ pub mod header;
 pub mod limits;
 pub mod line;
 pub mod plant;
+pub mod record;
 pub mod segment;
 
 pub use crate::class::Class;
@@ -18,4 +19,5 @@ pub use crate::header::Header;
 pub use crate::limits::Limits;
 pub use crate::line::Line;
 pub use crate::plant::Plant;
+pub use crate::record::{Among, MOST_FIELDS, Record};
 pub use crate::segment::Segment;

@@ -10,7 +10,7 @@ use crate::segment::Segment;
 
 #[derive(Clone, Copy)]
 pub struct Line {
-    // Whether a plant or a segment owns it, and which.
+    // Whether a plant or a segment owns it, and which. Numbers, since the definitions speak of those of the file.
     pub owner_kind: u8,
     pub owner: u32,
     pub class: u8,
@@ -61,8 +61,8 @@ impl Line {
         ensures { result ≡ owner_allowed counts owner_kind owner }
     {
         match owner_kind {
-            Plant::OWNER_KIND => 1 <= owner && owner <= counts.plants,
-            Segment::OWNER_KIND => 1 <= owner && owner <= counts.segments,
+            Plant::OWNER_KIND => (1..=counts.plants).contains(&owner),
+            Segment::OWNER_KIND => (1..=counts.segments).contains(&owner),
             _ => false,
         }
     }

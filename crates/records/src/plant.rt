@@ -33,7 +33,7 @@ impl Plant {
     pub(crate) fn count_allowed(count: u64) -> bool
         ensures { result ≡ plants_allowed count }
     {
-        Plant::FEWEST <= count && count <= Plant::MOST as u64
+        (Plant::FEWEST..=Plant::MOST as u64).contains(&count)
     }
 
     // Whether the field at an index of a plant's record allows a value, whatever comes before it (rule 2.4).
@@ -51,7 +51,7 @@ impl Plant {
     fn first_allowed(first: u64, counts: Counts) -> bool
         ensures { result ≡ first_allowed counts first }
     {
-        1 <= first && first <= counts.segments
+        (1..=counts.segments).contains(&first)
     }
 
     // Whether a plant may have this origin fraction (rule 2.4).

@@ -7,7 +7,7 @@ use crate::counts::Counts;
 
 #[derive(Clone, Copy)]
 pub struct Segment {
-    // Its kind: a way of transport, a storage on the way, or a geological store.
+    // Its kind: a way of transport, a storage on the way, or a geological store. A number, since the definitions speak of that of the file.
     pub kind: u8,
     // Its metered outflow, in kg.
     pub outflow: u32,
@@ -37,7 +37,7 @@ impl Segment {
     pub(crate) fn count_allowed(count: u64) -> bool
         ensures { result ≡ segments_allowed count }
     {
-        Segment::FEWEST <= count && count <= Segment::MOST as u64
+        (Segment::FEWEST..=Segment::MOST as u64).contains(&count)
     }
 
     // Whether the field at an index of a segment's record allows a value, by its own number and the numbers before it (rules 2.5 to 2.7).
@@ -61,10 +61,7 @@ impl Segment {
     fn kind_allowed(kind: u64) -> bool
         ensures { result ≡ kind_allowed kind }
     {
-        match kind {
-            Segment::PIPELINE..=Segment::STORE => true,
-            _ => false,
-        }
+        matches!(kind, Segment::PIPELINE..=Segment::STORE)
     }
 
     // Whether a segment of this kind and with its own number may lead to this next segment (rule 2.7).

@@ -5,7 +5,7 @@ use mathlib.Core.Path.{◌≡◌, refl}
 use mathlib.Core.List.{List, [], ◌∷◌}
 use native.Mathlib.Nat.{le_trans}
 use native.Mathlib.Omega.{arith}
-use lib.ListN.{length, take, length-append}
+use lib.ListN.{length, length-append}
 use Rattle.records.specs.Plants.{most_plants}
 use Rattle.records.specs.Segments.{most_segments}
 use Rattle.accounts.specs.Order.{Ruling, refusal, accepted, plant_row_numbers, segment_row_numbers}
@@ -31,11 +31,9 @@ text_room file = by_ruling (ruling_on_file file) refl
         let segment_rows_lem = table_long (code "S") segment_row_numbers segments most_segments (omega arith) room.1 in
         rw (length-append (table_text (ascii "P") plant_row_numbers plants) (table_text (ascii "S") segment_row_numbers segments)) (omega (arith, plant_rows_lem, segment_rows_lem))
 
--- so the room holds a file's text that is put at its start
+-- so a room holds a file's text that is put at its start
 pub held :
-    (room : List ℕ) (bytes : ℕ) {end : ℕ} {room' : List ℕ} → Put (ruling_text (ruling_on_file (take bytes room))) 0 room end room' →
-    most_rows_text ≤ length room → Holds (printed_rows (take bytes room)) end room'
-unfolding printed_rows
-held room bytes put enough =
-    let fits = le_trans (text_room (take bytes room)) enough in
+    (file : List ℕ) {room : List ℕ} {end : ℕ} {room' : List ℕ} → Put (printed_rows file) 0 room end room' → most_rows_text ≤ length room → Holds (printed_rows file) end room'
+held file put enough =
+    let fits = le_trans (text_room file) enough in
     record { within = put_within put fits; stands = put_whole put fits }

@@ -5,15 +5,16 @@ mod answer;
 mod room;
 
 use crate::answer::print_answer;
-use crate::room::room;
-use input::{Input, read_input};
+use crate::room::{ROOM, room};
+use input::read_input;
+use output::Text;
 
 // If standard input cannot be read, `read_input` says so, and nothing is printed.
 fn main(rt: HostRuntime) {
     let mut room = room();
-    let input = read_input(&rt, b"rows", &mut room);
-    let Input::File { bytes } = input else {
+    let Some(bytes) = read_input(&rt, b"rows", &mut room) else {
         return;
     };
-    print_answer(&rt, &mut room, bytes);
+    let mut text = Text::<ROOM>::new();
+    print_answer(&rt, &mut text, &room[..bytes]);
 }

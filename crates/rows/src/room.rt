@@ -1,7 +1,6 @@
-// Room for a period file, as far as its bytes can change the answer (rule 9.2), and then for the answer's text.
-ghost use Rattle.std.specs.Prelude.{◌<◌, ◌≡◌, length};
+// Room for a period file, as far as its bytes can change the answer (rule 9.2), and for the answer's text.
+ghost use Rattle.std.specs.Prelude.{◌<◌, length};
 ghost use Rattle.records.specs.Periods.{most_bytes};
-ghost use Rattle.rows.specs.Printed.{most_rows_text};
 
 use output::MOST_SPACED;
 use period::{PLANT_NUMBERS, SEGMENT_NUMBERS};
@@ -17,12 +16,11 @@ const PLANT_ROW: usize = ROW_SIGNS + MOST_SPACED * (1 + PLANT_NUMBERS);
 const SEGMENT_ROW: usize = ROW_SIGNS + MOST_SPACED * (1 + SEGMENT_NUMBERS);
 
 // The rows of the most plants and segments. The longest file is shorter, so no byte that is not read changes the answer (rule 9.2).
-const ROOM: usize = Plant::MOST * PLANT_ROW + Segment::MOST * SEGMENT_ROW;
+pub(crate) const ROOM: usize = Plant::MOST * PLANT_ROW + Segment::MOST * SEGMENT_ROW;
 
-// Zeros, with room for what is read and for what is printed.
+// Zeros, with room for what is read.
 pub(crate) fn room() -> [u8; ROOM]
-    ensures most_bytes_in_bounds { most_bytes < length result }
-    ensures most_rows_text_value { most_rows_text ≡ length result }
+    ensures { most_bytes < length result }
 {
     [0; ROOM]
 }

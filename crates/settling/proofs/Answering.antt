@@ -1,15 +1,13 @@
 -- The call: what is gathered of a file, and then what its segments give, is the settlement of the definitions.
-use Prim.Native.Nat.{ℕ}
-use mathlib.Core.Path.{◌≡◌, refl, sym, ap, subst, ◌∙◌}
-use mathlib.Core.List.{List, ◌++◌}
-use lib.ListN.{length}
-use Rattle.fields.specs.declared.answer.Answer.TheVariants.{Accepted, Refused}
+use Rattle.std.proofs.Common.{◌≡◌, ℕ, List, ◌++◌, length, Result, Ok, Err, refl, sym, ap, subst, ◌∙◌}
 use Rattle.fields.specs.declared.answer.Refusal.{Refusal}
-use Rattle.fields.specs.Answers.{Verdict, accepts, refuses, said}
+use Rattle.fields.specs.Answers.{Verdict, accepts, refuses}
 use Rattle.fields.specs.Readers.{Read, read, refused}
 use Rattle.fields.specs.Tests.{Test, tested_by}
 use Rattle.fields.proofs.Testing.{tests_turned}
 use Rattle.records.specs.declared.counts.Counts.{Counts}
+use Rattle.records.specs.Plants.{most_plants, no_plant}
+use Rattle.records.specs.Segments.{most_segments, no_segment}
 use Rattle.records.specs.Classes.{plant_owner, segment_owner}
 use Rattle.records.specs.Periods.{Period, period_file}
 use Rattle.records.specs.Within.{CountsWithin}
@@ -20,10 +18,8 @@ use Rattle.gathering.specs.Gathered.{gathering_tests, Contents, nothing_gathered
 use Rattle.gathering.proofs.Accepting.{Bounded, accepted_bounded}
 use Rattle.settling.specs.declared.settling.Settled.{Settled}
 use Rattle.settling.specs.Settled.{Settlement, nothing_settled, settled_of, settled_by, settled_period, settled_after, settlement, SettlePromise}
-use Rattle.settling.specs.Kept.{plants_by, segments_by}
-use Rattle.settling.specs.Inside.{EmissionsOf, Given, worked_off, SettledBy, nothing_kept}
-use Rattle.settling.proofs.ByColumns.{plants_are, segments_are, emission_at, no_emission, small_column, column_sized}
-use Rattle.settling.proofs.NothingKept.{kept_refused}
+use Rattle.settling.specs.Inside.{plants_in, segments_in, EmissionsOf, Given, worked_off, SettledBy}
+use Rattle.settling.proofs.Emitted.{front, emission_at, small_column}
 
 -- ---- the settlement of a file, by its gathering: a refusal, or else what the segments give
 abbrev decided : Verdict → Settlement → Settlement
@@ -49,56 +45,45 @@ module _ (file : List ℕ) where
       by_outcome (refused notice) = refl
       by_outcome (read period place at) = tests_first period (gathering_tests file period)
 
-  -- ---- what was gathered
-  module _ (r : Gathered) (promise : GatherPromise file r) where
-    -- the file is refused
-    pub file_out : (why : Refusal) → r.answer ≡ Refused why → SettlePromise file (nothing_kept why)
-    file_out why is =
-        kept_refused why
-        (settled_from_lem ∙ ap (λ (v : Verdict). decided v (worked_off (gathering file).bytes (gathering file).period)) (sym promise.verdict ∙ ap said is))
+  -- ---- what was gathered: the file is refused
+  pub file_out : (refusal : Refusal) → GatherPromise file (Err refusal) → SettlePromise file (Err refusal)
+  file_out refusal told =
+      rw (settled_from_lem) (ap (λ (v : Verdict). (decided v (worked_off (gathering file).bytes (gathering file).period)).verdict) told)
 
-    -- it is accepted: what is left is to work the segments
-    module _ (is : r.answer ≡ Accepted) where
-      accepted : (gathering file).verdict ≡ accepts
-      accepted = sym promise.verdict ∙ ap said is
+  -- it is accepted: what is left is to work the segments
+  module _ (gathered : Gathered) (told : GatherPromise file (Ok gathered)) where
+    bounded : Bounded (gathering file)
+    bounded = accepted_bounded file (sym told.verdict)
 
-      bounded : Bounded (gathering file)
-      bounded = accepted_bounded file accepted
+    abbrev period : Period
+    period = (gathering file).period
 
-      abbrev period : Period
-      period = (gathering file).period
+    -- its records are those of the arrays
+    its_plants : plants_in gathered ≡ period.plants
+    its_plants = front no_plant most_plants gathered.counts.plants period.plants gathered.plants told.plants (ap (λ (c : Counts). c.plants) told.counts)
 
-      -- its records are those of the columns
-      its_plants : plants_by r.plants r.counts.plants ≡ period.plants
-      its_plants = ap (λ (c : Counts). plants_by r.plants c.plants) promise.counts ∙ plants_are r.plants period.plants promise.plants
+    its_segments : segments_in gathered ≡ period.segments
+    its_segments =
+        front no_segment most_segments gathered.counts.segments period.segments gathered.segments told.segments (ap (λ (c : Counts). c.segments) told.counts)
 
-      its_segments : segments_by r.segments r.counts.segments ≡ period.segments
-      its_segments =
-          ap (λ (c : Counts). segments_by r.segments c.segments) promise.counts ∙ segments_are r.segments period.segments promise.segments
+    pub settle_fits : Given gathered
+    settle_fits = record {
+      counts_within = subst CountsWithin (sym told.counts) bounded.within.counts;
+      plants_counted = ap length its_plants ∙ sym (ap (λ (c : Counts). c.plants) told.counts);
+      segments_counted = ap length its_segments ∙ sym (ap (λ (c : Counts). c.segments) told.counts);
+      each_plant = rw (its_plants, told.counts) bounded.within.plants;
+      each_segment = rw (its_segments, told.counts) bounded.within.segments;
+      small_plants = small_column plant_owner _ period.lines _ told.emissions.plants_are (bounded.most plant_owner);
+      small_segments = small_column segment_owner _ period.lines _ told.emissions.segments_are (bounded.most segment_owner);
+    }
 
-      pub settle_fits : Given r.plants r.segments r.counts r.emissions
-      settle_fits = record {
-        counts_within = subst CountsWithin (sym promise.counts) bounded.within.counts;
-        each_plant = rw (its_plants, promise.counts) bounded.within.plants;
-        each_segment = rw (its_segments, promise.counts) bounded.within.segments;
-        plants_filled = rw its_plants promise.plants;
-        segments_filled = rw its_segments promise.segments;
-        small = record {
-          plants = small_column plant_owner _ period.lines _ promise.emissions.plants_are (bounded.most plant_owner);
-          segments = small_column segment_owner _ period.lines _ promise.emissions.segments_are (bounded.most segment_owner);
-          sized = column_sized segment_owner _ period.lines _ promise.emissions.segments_are bounded.within.counts.most_segments_is;
-        };
-      }
+    -- its owners emit what its lines say
+    emitted : EmissionsOf gathered period.lines
+    emitted = record {
+      plants = λ p here. emission_at plant_owner _ period.lines _ told.emissions.plants_are p (rw told.counts at here);
+      segments = λ s here. emission_at segment_owner _ period.lines _ told.emissions.segments_are s (rw told.counts at here);
+    }
 
-      -- its owners emit what its lines say
-      emitted : EmissionsOf r.counts period.lines r.emissions
-      emitted = rw promise.counts (record {
-        plants = emission_at plant_owner _ period.lines _ promise.emissions.plants_are;
-        segments = emission_at segment_owner _ period.lines _ promise.emissions.segments_are;
-        behind = no_emission segment_owner _ period.lines _ promise.emissions.segments_are;
-      })
-
-      pub settled_whole : (told : Settled) → SettledBy r.plants r.segments r.counts r.emissions told → SettlePromise file told
-      settled_whole told settles =
-          rw (settled_from_lem ∙ ap (λ (v : Verdict). decided v (worked_off (gathering file).bytes period)) accepted)
-          (rw (promise.bytes, its_plants, its_segments) at (settles period.lines emitted))
+    pub settled_whole : (r : Result Settled Refusal) → SettledBy gathered r → SettlePromise file r
+    settled_whole r settles =
+        rw (settled_from_lem, ← told.verdict) (rw (told.bytes, its_plants, its_segments) at (settles period.lines emitted))

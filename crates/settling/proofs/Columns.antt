@@ -1,27 +1,30 @@
--- Laws of a column of the table of amounts: what the first plants bring to one segment.
-use Prim.Native.Nat.{ℕ, ◌≤◌, ◌<◌}
-use mathlib.Core.Path.{◌≡◌, ap, ◌∙◌}
-use mathlib.Core.List.{List, []}
-use lib.ListN.{length, get_or, take, drop, length-map, drop_of_length-le, get_or-map}
+-- Laws of a column of the table of amounts: what the plants bring to one segment.
+use Rattle.std.proofs.Common.{◌≡◌, ℕ, ◌≤◌, ◌<◌, List, [], length, get_or, take, drop, ap, ◌∙◌, arith}
+use lib.ListN.{length-map, drop_of_length-le, get_or-map}
 use lib.Seq.{length-take-le, get_or-take, drop-cons}
+use Rattle.settling.specs.declared.flow.Books.{Books}
 use Rattle.settling.specs.Books.{cell, column}
 use Rattle.settling.proofs.Crediting.{Next}
 
-module _ (plants s : ℕ) (table : List (List ℕ)) where
+module _ (books : Books) (s : ℕ) where
   -- it has an amount for each of the plants
-  pub column_length : plants ≤ length table → length (column plants s table) ≡ plants
-  column_length h = length-map (take plants table) (λ (row : List ℕ). get_or row s 0) ∙ length-take-le plants table h
+  pub column_length : length (column books s) ≡ books.plants
+  column_length =
+      length-map (take books.plants books.amounts) (λ (row : List ℕ). get_or row s 0)
+      ∙ length-take-le books.plants books.amounts (omega (arith, books.few, books.rows))
 
-  -- and the amount at an index is the cell of the plant there
-  pub column_at : (p : ℕ) → p < plants → get_or (column plants s table) p 0 ≡ cell table p s
-  column_at p h =
-      get_or-map (λ (row : List ℕ). get_or row s 0) (take plants table) p []
-      ∙ ap (λ (row : List ℕ). get_or row s 0) (get_or-take plants table p [] h)
+  -- at an index that of the plant's row, as a loop over their rows takes it
+  in_row : (p : ℕ) → get_or (column books s) p 0 ≡ get_or (get_or (take books.plants books.amounts) p []) s 0
+  in_row p = get_or-map (λ (row : List ℕ). get_or row s 0) (take books.plants books.amounts) p []
 
-  -- which enters next
-  pub column_next : plants ≤ length table → (p : ℕ) → p < plants → Next (column plants s table) p (cell table p s)
-  column_next h p q = drop-cons (column plants s table) p 0 (rw (column_length h) q) ∙ rw (column_at p q)
+  -- which is the plant's cell
+  pub column_at : (p : ℕ) → p < books.plants → get_or (column books s) p 0 ≡ cell books.amounts p s
+  column_at p here = in_row p ∙ ap (λ (row : List ℕ). get_or row s 0) (get_or-take books.plants books.amounts p [] here)
+
+  -- it enters next
+  pub column_next : (p : ℕ) → p < books.plants → Next (column books s) p (get_or (get_or (take books.plants books.amounts) p []) s 0)
+  column_next p here = drop-cons (column books s) p 0 (rw column_length here) ∙ rw (in_row p)
 
   -- behind the last plant nothing enters
-  pub column_end : plants ≤ length table → (p : ℕ) → plants ≤ p → drop p (column plants s table) ≡ []
-  column_end h p q = drop_of_length-le (column plants s table) {i = p} (rw (column_length h) q)
+  pub column_end : (p : ℕ) → books.plants ≤ p → drop p (column books s) ≡ []
+  column_end p behind = drop_of_length-le (column books s) {i = p} (rw column_length behind)

@@ -1,8 +1,8 @@
 -- The loop of the credits: plant by plant, what was shared so far is the definitions' credits up to there.
-use Prim.Native.Nat.{ℕ, suc, ◌+◌, ◌-◌, ◌*◌, ◌/◌, ◌≤◌, ◌<◌}
+use Prim.Native.Nat.{ℕ, zero, suc, ◌+◌, ◌-◌, ◌*◌, ◌/◌, ◌≤◌, ◌<◌}
 use mathlib.Core.Path.{◌≡◌, sym, ap, ◌∙◌}
 use mathlib.Core.List.{List, ◌∷◌, ◌++◌, append-nil}
-use native.Mathlib.Nat.{zero-mul, zero-div}
+use native.Mathlib.Nat.{zero-mul, zero-div, div-zero, mul-le-mul_right, mul-div_cancel_left}
 use native.Mathlib.Omega.{arith}
 use lib.ListN.{length, set, take, drop, length-drop, length-set, drop_of_length-le}
 use lib.Seq.{take-suc-set, append_snoc}
@@ -34,6 +34,12 @@ crediting_start inflow outflow entering written e room = record {
 abbrev pub Next : (entering : List ℕ) (p amount : ℕ) → Type 0
 Next entering p amount = drop p entering ≡ amount ∷ drop (suc p) entering
 
+-- no more is shared than left
+share_most : (inflow outflow n : ℕ) → n ≤ inflow → n * outflow / inflow ≤ outflow
+share_most zero outflow n most = rw (div-zero (n * outflow)) (omega arith)
+share_most (suc a) outflow n most =
+    omega (arith, div_mono (suc a) (n * outflow) (suc a * outflow) (mul-le-mul_right outflow most), mul-div_cancel_left outflow {n = suc a} (omega arith))
+
 module _ {inflow outflow : ℕ} {entering written : List ℕ} {before shared p : ℕ} (c : Crediting inflow outflow entering written before shared p) where
   -- with it no more than the inflow came
   pub so_far_most : (amount : ℕ) → Next entering p amount → before + amount ≤ inflow
@@ -44,6 +50,10 @@ module _ {inflow outflow : ℕ} {entering written : List ℕ} {before shared p :
   pub shared_most : (amount part : ℕ) → part ≡ (before + amount) * outflow / inflow → shared ≤ part
   shared_most amount part part_is =
       rw (part_is, c.shared_is) (div_mono inflow (before * outflow) ((before + amount) * outflow) (omega arith))
+
+  -- nor is more shared than left
+  pub part_most : (amount part : ℕ) → Next entering p amount → part ≡ (before + amount) * outflow / inflow → part ≤ outflow
+  part_most amount part next part_is = rw part_is (share_most inflow outflow (before + amount) (so_far_most amount next))
 
   -- one plant more
   pub crediting_on :

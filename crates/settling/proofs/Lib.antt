@@ -1,23 +1,22 @@
--- Records by their columns.
-mod ByColumns
 -- The tests of a segment, in their order.
 mod Tests
--- The credits, one after another, and a charge; the table of amounts, its columns and cells.
+-- The credits, one after another; the columns of the table of amounts, what is filled plant by plant, and who joins a set.
 mod Crediting
-mod Charging
 mod Columns
 mod Cells
--- All plants at their start, and how those of a set are sent on.
+mod Joining
+-- All plants at their start, and what a turn does to one of them.
+mod OnePlantsTurn
 mod Starting
+-- How the plants of a set are sent on.
 mod SendingOn
 -- The turns of the definitions beside the books.
-mod OnePlantsTurn
 mod BooksAtTurn
 mod TurnWorked
 mod AccountsByBooks
--- A period settled, or refused, and the whole call.
-mod NothingKept
+-- A period settled, and the whole call.
 mod SettledPeriod
+mod Emitted
 mod Answering
 -- How many accounts there are at most; no two outcomes meet the promise of the call.
 pub mod HowMany

@@ -1,14 +1,10 @@
 -- What a segment's turn does to one plant: to what it brings, and to the set that it is in.
-use Prim.Native.Nat.{ℕ, ◌≤◌}
-use mathlib.Core.Path.{◌≡◌, refl, sym, ◌∙◌}
-use mathlib.Core.Bool.{Bool, true, false, cond, ◌&&◌, ◌||◌}
-use native.Mathlib.Omega.{arith}
-use lib.Dec.{eqb}
+use Rattle.std.proofs.Common.{◌≡◌, ℕ, Bool, true, false, cond, ◌&&◌, ◌||◌, eqb, refl, sym, ◌∙◌}
 use borrow.Author.Tests.{eqb-true, eqb-false, eq-eqb, ne_eqb}
 use Rattle.accounts.specs.Flow.{Standing, passes, brings, sent_on}
 
 -- the order of what is compared does not matter
-eqb_sym : (m n : ℕ) → eqb m n ≡ eqb n m
+pub eqb_sym : (m n : ℕ) → eqb m n ≡ eqb n m
 eqb_sym m n = by_test (eqb m n) refl
   where
     by_test : (b : Bool) → eqb m n ≡ b → eqb m n ≡ eqb n m
@@ -26,22 +22,14 @@ either true true = refl
 either true false = refl
 either false c = refl
 
--- a plant brings no more than it has
-pub brings_most : (n : ℕ) (standing : Standing) → brings n standing ≤ standing.amount
-brings_most n standing = by_test (passes n standing)
-  where
-    by_test : (b : Bool) → cond b standing.amount 0 ≤ standing.amount
-    by_test true = omega arith
-    by_test false = omega arith
-
 module _ (own next credit : ℕ) (standing : Standing) where
   -- where the turn leaves the plant
   abbrev sent : Standing
   sent = sent_on own next standing credit
 
   -- what it brings to another segment than this one, or has stored if the number is 0
-  pub brought : (n : ℕ) → (n ≡ own → ⊥) → cond (passes own standing && eqb n next) credit (brings n standing) ≡ brings n sent
-  brought n other = by_test (passes own standing) refl
+  pub brings_on : (n : ℕ) → (n ≡ own → ⊥) → cond (passes own standing && eqb n next) credit (brings n standing) ≡ brings n sent
+  brings_on n other = by_test (passes own standing) refl
     where
       elsewhere : standing.before ≡ own → brings n standing ≡ 0
       elsewhere here = rw (ne_eqb standing.before n (λ same. other (sym same ∙ here))) refl

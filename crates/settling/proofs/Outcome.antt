@@ -1,46 +1,46 @@
 -- No two outcomes meet the promise of the call.
-use Prim.Native.Nat.{ℕ}
-use mathlib.Core.Path.{◌≡◌, sym, ap, ◌∙◌}
-use mathlib.Core.List.{List}
-use Rattle.fields.specs.declared.answer.Answer.{Answer}
-use Rattle.fields.proofs.Outcome.{said_once}
-use Rattle.settling.specs.declared.account.PlantAccounts.{PlantAccounts}
-use Rattle.settling.specs.declared.account.SegmentAccounts.{SegmentAccounts}
+use Rattle.std.proofs.Common.{◌≡◌, ℕ, List, Result, Ok, Err, refl, sym, ap, ◌∙◌, true≢false}
+use Rattle.fields.specs.declared.answer.Refusal.{Refusal}
+use Rattle.fields.specs.Answers.{Answer}
+use Rattle.fields.proofs.Answers.{refuses_not_accepts}
+use Rattle.fields.proofs.Outcome.{refusal_once}
+use Rattle.settling.specs.declared.account.PlantAccount.{PlantAccount}
+use Rattle.settling.specs.declared.account.SegmentAccount.{SegmentAccount}
 use Rattle.settling.specs.declared.settling.Settled.{Settled}
-use Rattle.settling.specs.Settled.{PlantAccount, SegmentAccount, PlantColumns, SegmentColumns, SettlePromise}
+use Rattle.settling.specs.Settled.{Settlement, Settles, settlement, SettlePromise, SettleIntoPromise, outcome}
 
--- columns by their names
-abbrev plants_made : (exported fraction stored associated : List ℕ) → PlantAccounts
-plants_made exported fraction stored associated = record { exported = exported; fraction = fraction; stored = stored; associated = associated }
+-- what the code hands back, by its fields
+abbrev made : (plant_count segment_count : ℕ) → List PlantAccount → List SegmentAccount → Settled
+made plant_count segment_count plants segments =
+    record { plant_count = plant_count; segment_count = segment_count; plants = plants; segments = segments }
 
-abbrev segments_made : (inflow outflow emission plants : List ℕ) → SegmentAccounts
-segments_made inflow outflow emission plants = record { inflow = inflow; outflow = outflow; emission = emission; plants = plants }
-
--- the columns of some accounts are the same
-one_plants : (r s : PlantAccounts) (accounts : List PlantAccount) → PlantColumns r accounts → PlantColumns s accounts → r ≡ s
-one_plants r s accounts p q =
-    ap (λ (x : List ℕ). plants_made x r.fraction r.stored r.associated) (p.exported ∙ sym q.exported)
-    ∙ ap (λ (x : List ℕ). plants_made s.exported x r.stored r.associated) (p.fraction ∙ sym q.fraction)
-    ∙ ap (λ (x : List ℕ). plants_made s.exported s.fraction x r.associated) (p.stored ∙ sym q.stored)
-    ∙ ap (plants_made s.exported s.fraction s.stored) (p.associated ∙ sym q.associated)
-
-one_segments : (r s : SegmentAccounts) (accounts : List SegmentAccount) → SegmentColumns r accounts → SegmentColumns s accounts → r ≡ s
-one_segments r s accounts p q =
-    ap (λ (x : List ℕ). segments_made x r.outflow r.emission r.plants) (p.inflow ∙ sym q.inflow)
-    ∙ ap (λ (x : List ℕ). segments_made s.inflow x r.emission r.plants) (p.outflow ∙ sym q.outflow)
-    ∙ ap (λ (x : List ℕ). segments_made s.inflow s.outflow x r.plants) (p.emission ∙ sym q.emission)
-    ∙ ap (segments_made s.inflow s.outflow s.emission) (p.plants ∙ sym q.plants)
-
--- what the code answers, by its fields
-abbrev made : Answer → (counted_plants counted_segments : ℕ) → PlantAccounts → SegmentAccounts → Settled
-made answer counted_plants counted_segments plants segments =
-    record { answer = answer; plant_count = counted_plants; segment_count = counted_segments; plants = plants; segments = segments }
+-- two answers that say the same of a settlement are the same
+one_by : (r s : Result Settled Refusal) (settled : Settlement) → Settles r settled → Settles s settled → r ≡ s
+one_by (Ok r) (Ok s) settled p q =
+    ap (λ (n : ℕ). Ok (made n r.segment_count r.plants r.segments)) (p.plant_count_is ∙ sym q.plant_count_is)
+    ∙ ap (λ (n : ℕ). Ok (made s.plant_count n r.plants r.segments)) (p.segment_count_is ∙ sym q.segment_count_is)
+    ∙ ap (λ (l : List PlantAccount). Ok (made s.plant_count s.segment_count l r.segments)) (p.plants ∙ sym q.plants)
+    ∙ ap (λ (l : List SegmentAccount). Ok (made s.plant_count s.segment_count s.plants l)) (p.segments ∙ sym q.segments)
+one_by (Ok r) (Err b) settled p q = absurd (refuses_not_accepts (q ∙ sym p.verdict))
+one_by (Err a) (Ok s) settled p q = absurd (refuses_not_accepts (p ∙ sym q.verdict))
+one_by (Err a) (Err b) settled p q = let same = p ∙ sym q in ap (λ (x : Refusal). Err x) (refusal_once a b (cc))
 
 -- `settle`: two outcomes that meet its promise, of one file, are the same
-pub one_settlement : (file : List ℕ) (r s : Settled) → SettlePromise file r → SettlePromise file s → r ≡ s
-one_settlement file r s p q =
-    ap (λ (x : Answer). made x r.plant_count r.segment_count r.plants r.segments) (said_once r.answer s.answer (p.verdict ∙ sym q.verdict))
-    ∙ ap (λ (x : ℕ). made s.answer x r.segment_count r.plants r.segments) (p.plant_count_is ∙ sym q.plant_count_is)
-    ∙ ap (λ (x : ℕ). made s.answer s.plant_count x r.plants r.segments) (p.segment_count_is ∙ sym q.segment_count_is)
-    ∙ ap (λ (x : PlantAccounts). made s.answer s.plant_count s.segment_count x r.segments) (one_plants r.plants s.plants _ p.plants q.plants)
-    ∙ ap (made s.answer s.plant_count s.segment_count s.plants) (one_segments r.segments s.segments _ p.segments q.segments)
+pub one_settlement : (file : List ℕ) (r s : Result Settled Refusal) → SettlePromise file r → SettlePromise file s → r ≡ s
+one_settlement file r s p q = one_by r s (settlement file) p q
+
+-- `settle_into`: so are two of its answers, and what it leaves in the lent accounts
+pub one_settled_into :
+    (file : List ℕ) (before : Settled) (r s : Answer) (after after' : Settled) →
+    SettleIntoPromise file before r after → SettleIntoPromise file before s after' → (r ≡ s) × (after ≡ after')
+one_settled_into file before r s after after' p q = by_answers r s (one_settlement file (outcome r after) (outcome s after') p.settles q.settles) p.kept q.kept
+  where
+    Kept : Answer → Settled → Type 0
+    Kept answer left = (refusal : Refusal) → answer ≡ Err refusal → left ≡ before
+
+    by_answers : (a b : Answer) → outcome a after ≡ outcome b after' → Kept a after → Kept b after' → (a ≡ b) × (after ≡ after')
+    by_answers (Ok done) (Ok done') e kept kept' = (refl, cc)
+    by_answers (Ok done) (Err b) e kept kept' = absurd (true≢false (cc))
+    by_answers (Err a) (Ok done) e kept kept' = absurd (true≢false (cc))
+    by_answers (Err a) (Err b) e kept kept' =
+        let same : a ≡ b = cc in (ap (λ (x : Refusal). Err x) same, kept a refl ∙ sym (kept' b refl))

@@ -1,130 +1,103 @@
--- The plants at their start, put there one after another. One law for each turn of that loop.
-use Prim.Native.Nat.{ℕ, zero, suc, ◌+◌, ◌-◌, ◌*◌, ◌%◌, ◌^◌, ◌≤◌, ◌<◌}
-use mathlib.Core.Path.{◌≡◌, refl, sym, ap, subst, ◌∙◌}
-use mathlib.Core.Bool.{Bool, true, false, cond}
-use mathlib.Core.List.{List, [], ◌∷◌, ◌++◌, map, map-append}
-use native.Mathlib.Nat.{one-mul}
-use native.Mathlib.Numerals.{add-one}
-use native.Mathlib.Omega.{arith}
-use lib.Bits.{bit_or}
-use lib.Dec.{eqb}
-use lib.ListN.{length, get_or, set, take, replicate, length-map, length-set, length-replicate, get_or-replicate, get_or-map}
-use lib.Pow.{shl_exact}
+-- The plants at their start, put there one after another.
+use Rattle.std.proofs.Common.{◌≡◌, ℕ, zero, suc, ◌+◌, ◌*◌, ◌%◌, ◌^◌, ◌≤◌, ◌<◌, Bool, true, false, cond, eqb, List, [], ◌∷◌, ◌++◌, map, length, get_or, take, replicate, bit_or, refl, sym, ap, ◌∙◌, add-one, arith}
+use mathlib.Core.List.{map-append}
+use lib.ListN.{length-map, get_or-map}
 use lib.Seq.{take-suc, take-length, length-take-le}
-use borrow.Author.Tests.{eqb-true, eqb-false, eq-eqb, ne_eqb}
+use Rattle.fields.specs.Lists.{Each}
 use Rattle.records.specs.declared.plant.Plant.{Plant}
 use Rattle.records.specs.Plants.{most_plants, no_plant}
 use Rattle.records.specs.Segments.{most_segments}
 use Rattle.records.specs.Within.{PlantWithin, most_counts}
+use Rattle.records.proofs.Within.{each_at}
 use Rattle.accounts.specs.Flow.{Standing, at_first, passes, brings}
 use Rattle.accounts.specs.Accounts.{set_of}
 use Rattle.accounts.proofs.Sets.{set_with, set_without}
-use Rattle.settling.specs.Books.{Sized, cell, SetsHold, Started}
-use Rattle.settling.proofs.Cells.{zeros, no_amount, Filled, none_yet, put_into, put, put_sized, put_filled}
+use Rattle.settling.specs.declared.flow.Books.{Books}
+use Rattle.settling.specs.Books.{brought, SetsHold, Blank, Brought, Started}
+use Rattle.settling.proofs.Cells.{UpTo, none_yet, brought_on}
+use Rattle.settling.proofs.Joining.{with_members, members_join, bit}
+use Rattle.settling.proofs.OnePlantsTurn.{eqb_sym}
 
--- ---- before: no amounts, and no plants in the sets
-no_cell : (plants segments p s : ℕ) → cell (replicate plants (zeros segments)) p s ≡ 0
+-- every plant's first segment has its place in the books
+pub within : (plants : List Plant) (p : ℕ) → p < length plants → Each (PlantWithin most_counts) 1 plants → PlantWithin most_counts (suc p) (get_or plants p no_plant)
+within plants p more each = each_at (PlantWithin most_counts) 1 plants p no_plant (suc p) (omega arith) more each
+
+pub first_least : (plants : List Plant) (p : ℕ) → Each (PlantWithin most_counts) 1 plants → p < length plants → 1 ≤ (get_or plants p no_plant).first
+first_least plants p each more = (within plants p more each).some_first
+
+pub first_most : (plants : List Plant) (p : ℕ) → Each (PlantWithin most_counts) 1 plants → p < length plants → (get_or plants p no_plant).first ≤ most_segments
+first_most plants p each more = (within plants p more each).first
+
+-- one plant more goes into the set of its first segment
+joins :
+    (standings : List Standing) (plant : Plant) (p : ℕ) (sets : List ℕ) →
+    length standings ≡ p → p < most_plants → 1 ≤ plant.first → plant.first ≤ length sets → SetsHold standings 0 sets →
+    SetsHold (standings ++ (at_first plant ∷ [])) 0 (with_members sets plant.first (1 * 2 ^ p % 2 ^ 32))
+joins standings plant p sets so_many few some fits hold s low high =
+    members_join sets plant.first (1 * 2 ^ p % 2 ^ 32) some fits s
+    ∙ rw (bit p few, hold s low high, eqb_sym (suc s) plant.first, ← so_many) (by_test (passes (suc s) (at_first plant)) refl)
+  where
+    by_test :
+        (t : Bool) → passes (suc s) (at_first plant) ≡ t →
+        cond t (bit_or (set_of (suc s) 0 standings) (2 ^ length standings)) (set_of (suc s) 0 standings) ≡ set_of (suc s) 0 (standings ++ (at_first plant ∷ []))
+    by_test true e = set_with (suc s) standings (at_first plant) e
+    by_test false e = sym (set_without (suc s) standings (at_first plant) e)
+
+-- a plant brings to its first segment what it exported, and nothing to others
+placed : (plant : Plant) (n : ℕ) → cond (eqb n plant.first) plant.exported 0 ≡ brings n (at_first plant)
+placed plant n = ap (λ (t : Bool). cond t plant.exported 0) (eqb_sym n plant.first)
+
+-- ---- in books in which nothing is written yet, nobody brings anything
+abbrev pub zeros : ℕ → List ℕ
+zeros count = replicate count 0
+
+pub no_amount : (count i : ℕ) → get_or (zeros count) i 0 ≡ 0
+no_amount zero i = refl
+no_amount (suc count) zero = refl
+no_amount (suc count) (suc i) = no_amount count i
+
+no_cell : (plants segments p s : ℕ) → get_or (get_or (replicate plants (zeros segments)) p []) s 0 ≡ 0
 no_cell zero segments p s = refl
 no_cell (suc plants) segments zero s = no_amount segments s
 no_cell (suc plants) segments (suc p) s = no_cell plants segments p s
 
--- ---- a plant stands before its first segment, and brings there what it exported
--- the index of its first segment tells where it stands
-first_is : (plant : Plant) (s : ℕ) → 1 ≤ plant.first → eqb s (plant.first - 1) ≡ passes (suc s) (at_first plant)
-first_is plant s h = by_test (passes (suc s) (at_first plant)) refl
-  where
-    by_test : (t : Bool) → passes (suc s) (at_first plant) ≡ t → eqb s (plant.first - 1) ≡ t
-    by_test true e = eq-eqb s (plant.first - 1) (omega (arith, eqb-true plant.first (suc s) e))
-    by_test false e = ne_eqb s (plant.first - 1) (λ here. eqb-false plant.first (suc s) e (omega arith))
+pub none_brought : (p n : ℕ) → get_or (get_or (zeros most_plants) p 0 ∷ get_or (replicate most_plants (zeros most_segments)) p []) n 0 ≡ 0
+none_brought p zero = no_amount most_plants p
+none_brought p (suc s) = no_cell most_plants most_segments p s
 
--- and what it brings to each
-brought : (plant : Plant) (s : ℕ) → 1 ≤ plant.first → cond (eqb s (plant.first - 1)) plant.exported 0 ≡ brings (suc s) (at_first plant)
-brought plant s h = ap (λ (t : Bool). cond t plant.exported 0) (first_is plant s h)
+-- ---- the loop: p plants are at their start, and the others nowhere
+pub record AtStart (plants : List Plant) (p : ℕ) (books : Books) : Type 0 where
+  pub plants_are : books.plants ≡ length plants
+  pub amounts : (n : ℕ) → UpTo p (λ q. brings n (at_first (get_or plants q no_plant))) (λ q. 0) (λ q. brought books q n)
+  pub members : SetsHold (map at_first (take p plants)) 0 books.sets
 
--- ---- one plant more goes into the set of its first segment, by the shift and the or of the machine
--- the set of that segment, and all sets, with the plant
-abbrev with_plant : Plant → (p : ℕ) → List ℕ → ℕ
-with_plant plant p sets = bit_or (get_or sets (plant.first - 1) 0) (1 * 2 ^ p % 2 ^ 64)
+-- none, before the first turn
+pub none_started : {plants : List Plant} {books : Books} → Blank (length plants) books → AtStart plants 0 books
+unfolding set_of
+none_started blank =
+    record { plants_are = blank.plants_are; amounts = λ n. none_yet (λ q. blank.amounts q n); members = λ s low high. blank.members s }
 
-abbrev joined : Plant → (p : ℕ) → List ℕ → List ℕ
-joined plant p sets = set sets (plant.first - 1) (with_plant plant p sets)
+module _ {plants : List Plant} {p : ℕ} {books : Books} (so_far : AtStart plants p books) where
+  -- one more is at its start, and in the set of its first segment
+  pub one_placed :
+      {books' : Books} → let plant = get_or plants p no_plant in Brought p plant.first plant.exported books books' →
+      (n : ℕ) → UpTo (p + 1) (λ q. brings n (at_first (get_or plants q no_plant))) (λ q. 0) (λ q. brought books' q n)
+  one_placed put n = brought_on put n (so_far.amounts n) (placed (get_or plants p no_plant) n)
 
--- no bit is shifted out
-bit : (p : ℕ) → p < most_plants → 1 * 2 ^ p % 2 ^ 64 ≡ 2 ^ p
-bit p few = shl_exact {a = 1} 1 p 64 (omega arith) (omega arith) ∙ one-mul (2 ^ p)
+  pub one_joined :
+      let plant = get_or plants p no_plant in p < length plants → PlantWithin most_counts (suc p) plant →
+      (sets : List ℕ) → sets ≡ books.sets → SetsHold (map at_first (take (p + 1) plants)) 0 (with_members sets plant.first (1 * 2 ^ p % 2 ^ 32))
+  one_joined more w sets same =
+      rw (same, add-one, take-suc plants p no_plant more, map-append at_first (take p plants) (get_or plants p no_plant ∷ []))
+      (joins (map at_first (take p plants)) (get_or plants p no_plant) p books.sets
+      (length-map (take p plants) at_first ∙ length-take-le p plants (omega (arith, more)))
+      (omega (arith, more, so_far.plants_are, books.few)) w.some_first (omega (arith, w, books.sets_sized)) so_far.members)
 
--- the sets hold the plants so far: joined, they hold one plant more
-joins :
-    (standings : List Standing) (plant : Plant) (p : ℕ) (sets : List ℕ) →
-    length standings ≡ p → p < most_plants → 1 ≤ plant.first → plant.first ≤ length sets → SetsHold standings 0 sets →
-    SetsHold (standings ++ (at_first plant ∷ [])) 0 (joined plant p sets)
-joins standings plant p sets so_many few some_first first hold s low high =
-    put_into sets (plant.first - 1) (with_plant plant p sets) (omega arith) s
-    ∙ ap (λ (t : Bool). cond t (with_plant plant p sets) (get_or sets s 0)) (first_is plant s some_first)
-    ∙ by_test (passes (suc s) (at_first plant)) refl
-  where
-    by_test :
-        (t : Bool) → passes (suc s) (at_first plant) ≡ t →
-        cond t (with_plant plant p sets) (get_or sets s 0) ≡ set_of (suc s) 0 (standings ++ (at_first plant ∷ []))
-    by_test true e =
-        let here : plant.first - 1 ≡ s = omega (arith, eqb-true plant.first (suc s) e) in
-        rw (here, hold s low high, bit p few, ← so_many) (set_with (suc s) standings (at_first plant) e)
-    by_test false e = hold s low high ∙ sym (set_without (suc s) standings (at_first plant) e)
-
-module _ (plants : List Plant) where
-  -- ---- where the first p plants start: one plant more, and how many there are
-  one_more : (p : ℕ) → p < length plants → map at_first (take (p + 1) plants) ≡ map at_first (take p plants) ++ (at_first (get_or plants p no_plant) ∷ [])
-  one_more p h = rw (add-one, take-suc plants p no_plant h) (map-append at_first (take p plants) (get_or plants p no_plant ∷ []))
-
-  so_many : (p : ℕ) → p ≤ length plants → length (map at_first (take p plants)) ≡ p
-  so_many p h = length-map (take p plants) at_first ∙ length-take-le p plants h
-
-  -- ---- the loop: p plants are at their start, and the others nowhere
-  pub record AtStart (p : ℕ) (table : List (List ℕ)) (sets : List ℕ) : Type 0 where
-    pub sized : Sized table
-    pub amounts : Filled p (λ q s. brings (suc s) (at_first (get_or plants q no_plant))) (λ q s. 0) table
-    pub sets_sized : length sets ≡ most_segments
-    pub members : SetsHold (map at_first (take p plants)) 0 sets
-
-  -- none, before the first turn
-  pub none_started : AtStart 0 (replicate most_plants (zeros most_segments)) (zeros most_segments)
-  unfolding set_of
-  none_started = record {
-    sized = record {
-      rows = length-replicate most_plants (zeros most_segments);
-      amounts = λ p h. ap length (get_or-replicate most_plants p (zeros most_segments) [] h) ∙ length-replicate {A = ℕ} most_segments 0;
-    };
-    amounts = λ s. none_yet (λ p. no_cell most_plants most_segments p s);
-    sets_sized = length-replicate {A = ℕ} most_segments 0;
-    members = λ s low high. no_amount most_segments s;
-  }
-
-  -- one more, after a turn
-  pub one_started :
-      {p : ℕ} {table : List (List ℕ)} {sets : List ℕ} → AtStart p table sets → p < length plants → p < most_plants →
-      (plant : Plant) → get_or plants p no_plant ≡ plant → PlantWithin most_counts (suc p) plant →
-      AtStart (p + 1) (put table p (plant.first - 1) plant.exported) (joined plant p sets)
-  one_started {p} {table} {sets} so_far more few plant is w =
-      let first = plant.first - 1 in
-      record {
-        sized = put_sized table p first plant.exported so_far.sized few;
-        amounts =
-            put_filled table p first plant.exported so_far.sized few (omega (arith, w)) so_far.amounts
-            (λ s. rw is (brought plant s w.some_first));
-        sets_sized = rw length-set so_far.sets_sized;
-        members =
-            rw (one_more p more, is)
-            (joins (map at_first (take p plants)) plant p sets (so_many p (omega arith)) few w.some_first (omega (arith, w, so_far.sets_sized)) so_far.members);
-      }
-
-  -- all, after the last turn
-  pub all_started : {count : ℕ} {table : List (List ℕ)} {sets : List ℕ} → AtStart count table sets → count ≡ length plants → Started plants table sets
-  all_started {count} {table} {sets} so_far all =
-      let whole : take count plants ≡ plants = ap (λ (n : ℕ). take n plants) all ∙ take-length plants in
-      record {
-        sized = so_far.sized;
-        sets_sized = so_far.sets_sized;
-        amounts = λ p s h low high.
-            (so_far.amounts s).done p (omega (arith, h, all, length-map plants at_first)) ∙ ap (brings (suc s)) (sym (get_or-map at_first plants p no_plant));
-        members = subst (λ (l : List Plant). SetsHold (map at_first l) 0 sets) whole so_far.members;
-      }
+-- all, after the last turn
+pub all_started : {plants : List Plant} {p : ℕ} {books : Books} → AtStart plants p books → p ≡ length plants → Started plants books
+all_started {plants} {p} {books} now all = record {
+  plants_are = now.plants_are;
+  amounts = λ q n here ahead.
+      (now.amounts n).done q (omega (arith, here, all, length-map plants at_first)) ∙ ap (brings n) (sym (get_or-map at_first plants q no_plant));
+  members = rw (all, take-length) at now.members;
+}

@@ -1,28 +1,22 @@
 -- The tests of a segment, in their order: what they give, whatever tests follow.
-use Prim.Native.Nat.{ℕ, ◌+◌, ◌≤◌, ◌<◌}
-use mathlib.Core.Path.{◌≡◌, refl, ap}
+use Prim.Native.Nat.{ℕ, ◌≤◌, ◌<◌}
+use mathlib.Core.Path.{◌≡◌, refl}
 use mathlib.Core.Bool.{false, ◌&&◌, and-false}
 use mathlib.Core.List.{List, [], ◌∷◌}
 use mathlib.Core.Logic.{◌⊎◌, ⊎_elim}
-use native.Mathlib.Numerals.{add-one}
 use native.Mathlib.Omega.{arith}
 use lib.Dec.{ltb, eqb}
 use borrow.Author.Tests.{lt-ltb, le-ltb, eq-eqb, ne_eqb}
 use Rattle.number.specs.Groups.{largest}
-use Rattle.fields.specs.declared.answer.Answer.{Answer}
-use Rattle.fields.specs.declared.answer.Answer.TheVariants.{Accepted}
 use Rattle.fields.specs.declared.reason.Reason.TheVariants.{InflowTooLarge, OutflowOverInflow, EmissionWithoutInflow}
 use Rattle.fields.specs.Reasons.{number_of}
-use Rattle.fields.specs.Answers.{notice, accepts, refuses, said}
+use Rattle.fields.specs.Answers.{notice, Verdict, accepts, refuses}
 use Rattle.fields.specs.Tests.{Test, tested_by}
-use Rattle.fields.proofs.Answers.{refuses_not_accepts}
-use Rattle.fields.proofs.Testing.{none_fails}
 use Rattle.accounts.specs.Accounts.{Account}
 use Rattle.accounts.specs.Order.{segment_tests}
-use Rattle.accounts.proofs.Accepting.{Sound, sound_each}
 use Rattle.settling.specs.declared.flow.Due.{Due}
-use Rattle.settling.specs.Settled.{Settlement, nothing_settled}
-use Rattle.settling.specs.Books.{Passes, Books, figures, account_by}
+use Rattle.settling.specs.declared.flow.Books.{Books}
+use Rattle.settling.specs.Books.{Passes, figures, account_by}
 
 -- ---- the tests of one segment
 module _ (bytes : ℕ) (a : Account) where
@@ -63,25 +57,9 @@ module _ (bytes : ℕ) (a : Account) where
   unfolding tested_by segment_tests
   segment_passes fits out or = λ rest settled. rw (le-ltb largest a.inflow fits, le-ltb a.inflow a.outflow out, charged or) refl
 
-  -- tests that pass tell what they tested
-  pub segment_sound : Passes accepts tests → Sound a
-  unfolding tested_by segment_tests
-  segment_sound passes =
-      sound_each bytes (a ∷ [])
-      (none_fails nothing_settled tests empty empty (λ notice e. refuses_not_accepts (ap (λ (x : Settlement). x.verdict) e)) (passes [] empty))
-      0 a (omega arith)
-    where
-      -- a settlement that is no refusal
-      empty : Settlement
-      empty = record { verdict = accepts; plants = []; segments = [] }
-
 -- the tests of the segment whose turn it is, by its figures
-module _
-    (plants : ℕ) (due : Due) (books : Books) (answer : Answer) {inflow : ℕ} (inflow_is : inflow ≡ (account_by plants due books).inflow)
-    (passes : Passes (said answer) (segment_tests due.bytes (figures (due.index + 1) inflow due.segment.outflow due.emission ∷ []))) where
-  pub own_tests : Passes (said answer) (segment_tests due.bytes (account_by plants due books ∷ []))
+module _ (due : Due) (books : Books) {inflow : ℕ} (inflow_is : inflow ≡ (account_by due books).inflow) where
+  pub own_tests :
+      (verdict : Verdict) → Passes verdict (segment_tests due.bytes (figures due inflow ∷ [])) → Passes verdict (segment_tests due.bytes (account_by due books ∷ []))
   unfolding segment_tests
-  own_tests = rw (inflow_is, add-one) at passes
-
-  pub own_sound : answer ≡ Accepted → Sound (account_by plants due books)
-  own_sound is = segment_sound due.bytes (account_by plants due books) (rw is at own_tests)
+  own_tests verdict told = rw inflow_is at told

@@ -1,14 +1,15 @@
--- What the private functions promise to their callers. Nothing here is needed to read the promise of `settle`.
-use Rattle.std.specs.Prelude.{ℕ, zero, suc, ◌+◌, ◌*◌, ◌^◌, ◌≤◌, ◌<◌, ◌≡◌, List, [], length, take, get_or, replicate}
+-- What the private functions promise to their callers, beside the books. Nothing here is needed to read the promise of `settle`.
+use Rattle.std.specs.Prelude.{ℕ, zero, suc, ◌+◌, ◌*◌, ◌≤◌, ◌<◌, ◌≡◌, List, length, take, get_or, Result, Err}
 use Rattle.number.specs.Groups.{largest}
-use Rattle.fields.specs.declared.answer.Answer.TheVariants.{Refused}
 use Rattle.fields.specs.declared.answer.Refusal.{Refusal}
 use Rattle.fields.specs.Lists.{Each, filled}
 use Rattle.fields.specs.Tests.{listed}
-use Rattle.records.specs.declared.counts.Counts.{Counts}
+use Rattle.fields.specs.Answers.{Answer}
 use Rattle.records.specs.declared.line.Line.{Line}
-use Rattle.records.specs.Plants.{most_plants}
-use Rattle.records.specs.Segments.{most_segments}
+use Rattle.records.specs.declared.plant.Plant.{Plant}
+use Rattle.records.specs.declared.segment.Segment.{Segment}
+use Rattle.records.specs.Plants.{most_plants, no_plant}
+use Rattle.records.specs.Segments.{most_segments, no_segment}
 use Rattle.records.specs.Classes.{plant_owner, segment_owner}
 use Rattle.records.specs.Periods.{Period, period_of}
 use Rattle.records.specs.Within.{CountsWithin, PlantWithin, SegmentWithin}
@@ -16,135 +17,97 @@ use Rattle.accounts.specs.Sums.{rounded_up}
 use Rattle.accounts.specs.Emissions.{emission}
 use Rattle.accounts.specs.Order.{segment_tests}
 use Rattle.accounts.specs.Quantified.{accounts_of}
-use Rattle.gathering.specs.declared.emissions.Emissions.{Emissions}
-use Rattle.gathering.specs.declared.network.Plants.{Plants}
-use Rattle.gathering.specs.declared.network.Segments.{Segments}
-use Rattle.gathering.specs.Gathered.{PlantRecords, SegmentRecords}
-use Rattle.settling.specs.declared.account.PlantAccounts.{PlantAccounts}
-use Rattle.settling.specs.declared.account.SegmentAccounts.{SegmentAccounts}
-use Rattle.settling.specs.declared.flow.Due.{Due}
+use Rattle.gathering.specs.declared.gathering.Gathered.{Gathered}
+use Rattle.settling.specs.declared.account.PlantAccount.{PlantAccount}
+use Rattle.settling.specs.declared.account.SegmentAccount.{SegmentAccount}
+use Rattle.settling.specs.declared.flow.Books.{Books}
 use Rattle.settling.specs.declared.settling.Settled.{Settled}
-use Rattle.settling.specs.Settled.{Settlement, settled_of, settled_by, Settles}
-use Rattle.settling.specs.Kept.{plants_by, segment_by, segments_by}
-use Rattle.settling.specs.Books.{Sized}
+use Rattle.settling.specs.Settled.{no_plant_account, no_segment_account, Settlement, settled_of, settled_by, Settles, outcome}
+use Rattle.settling.specs.Books.{cell}
 
 -- No number is over the largest (rule 1.4).
 abbrev pub Small : List ℕ → Type 0
 Small numbers = (i : ℕ) → get_or numbers i 0 ≤ largest
 
--- ---- emissions
--- No owner emits more than the largest number (rule 9.3).
-pub record SmallEmissions (emissions : Emissions) : Type 0 where
-  pub plants : Small emissions.plants
-  pub segments : Small emissions.segments
-  pub sized : length emissions.segments ≡ most_segments
-
--- Every plant and segment emits what the lines say, and there are zeros behind the segments (rules 4.3 and 4.4).
-pub record EmissionsOf (counts : Counts) (lines : List Line) (emissions : Emissions) : Type 0 where
-  pub plants : (p : ℕ) → p < counts.plants → get_or emissions.plants p 0 ≡ emission plant_owner (suc p) lines
-  pub segments : (s : ℕ) → s < counts.segments → get_or emissions.segments s 0 ≡ emission segment_owner (suc s) lines
-  pub behind : (s : ℕ) → counts.segments ≤ s → get_or emissions.segments s 0 ≡ 0
-
 -- ---- what is charged, by the books
--- What a plant can be charged for without passing the numbers of the machine (rule 9.3).
-abbrev pub Chargeable : (amounts inflows emissions : List ℕ) → (segments : ℕ) → Type 0
-Chargeable amounts inflows emissions segments =
-    (s : ℕ) → s < segments → (get_or amounts s 0 ≤ get_or inflows s 0) × (get_or inflows s 0 ≤ largest) × (get_or emissions s 0 ≤ largest)
+-- What the first `segments` segments charge to a plant for its amounts (rule 6.1).
+unfoldable pub charges_by : Books → (p : ℕ) (emissions : List ℕ) → (segments : ℕ) → ℕ
+charges_by books p emissions zero = 0
+charges_by books p emissions (suc s) =
+    charges_by books p emissions s + rounded_up (cell books.amounts p s * get_or emissions s 0) (get_or books.inflows s 0)
 
--- What the first `segments` segments charge for a plant's amounts (rule 6.1).
-unfoldable pub charges_by : (amounts inflows emissions : List ℕ) → (segments : ℕ) → ℕ
-charges_by amounts inflows emissions zero = 0
-charges_by amounts inflows emissions (suc s) =
-    charges_by amounts inflows emissions s + rounded_up (get_or amounts s 0 * get_or emissions s 0) (get_or inflows s 0)
+-- A plant brought no more than the inflow, so that no charge passes the segment's emission (rule 9.3).
+abbrev pub Chargeable : Books → (p segments : ℕ) → Type 0
+Chargeable books p segments = (s : ℕ) → s < segments → cell books.amounts p s ≤ get_or books.inflows s 0
 
-module _ (table : List (List ℕ)) (inflows : List ℕ) (emissions : Emissions) (counts : Counts) where
-  -- What is associated with a plant (rule 6.2).
-  abbrev pub associated_by : ℕ → ℕ
-  associated_by p = get_or emissions.plants p 0 + charges_by (get_or table p []) inflows emissions.segments counts.segments
+-- ---- a period that was gathered
+module _ (gathered : Gathered) where
+  -- Its plants and its segments.
+  abbrev pub plants_in : List Plant
+  plants_in = take gathered.counts.plants gathered.plants
 
-  -- What this asks of the books.
-  pub record AllChargeable : Type 0 where
-    pub counts_within : CountsWithin counts
-    pub sized : Sized table
-    pub inflows_sized : length inflows ≡ most_segments
-    pub small : SmallEmissions emissions
-    pub each : (p : ℕ) → p < counts.plants → Chargeable (get_or table p []) inflows emissions.segments counts.segments
+  abbrev pub segments_in : List Segment
+  segments_in = take gathered.counts.segments gathered.segments
 
-  -- What is found, with zeros behind (rule 6.2).
-  abbrev pub Associated : List ℕ → Type 0
-  Associated found = found ≡ filled 0 most_plants (listed associated_by 0 counts.plants)
+  -- The period, if it has these lines.
+  abbrev pub period_in : List Line → Period
+  period_in = period_of plants_in segments_in
 
--- ---- the accounts, by the books
--- The first `count` numbers fit 32 bits.
-abbrev pub SmallUpTo : ℕ → List ℕ → Type 0
-SmallUpTo count numbers = (i : ℕ) → i < count → get_or numbers i 0 < 2 ^ 32
+  -- Each of its owners emits what these lines say (rules 4.3 and 4.4).
+  pub record EmissionsOf (lines : List Line) : Type 0 where
+    pub plants : (p : ℕ) → p < gathered.counts.plants → get_or gathered.emissions.plants p 0 ≡ emission plant_owner (suc p) lines
+    pub segments : (s : ℕ) → s < gathered.counts.segments → get_or gathered.emissions.segments s 0 ≡ emission segment_owner (suc s) lines
 
--- What the accounts of `count` plants ask, and below what they are.
-pub record PlantsCounted (stored : List ℕ) (count : ℕ) : Type 0 where
-  pub most_plants_is : count ≤ most_plants
-  pub sized : length stored ≡ most_plants
-  pub small : SmallUpTo count stored
+  -- What settling asks of it: all is within its limits, and no owner emits more than the largest number (rules 2.10 and 9.3).
+  pub record Given : Type 0 where
+    pub counts_within : CountsWithin gathered.counts
+    pub plants_counted : length plants_in ≡ gathered.counts.plants
+    pub segments_counted : length segments_in ≡ gathered.counts.segments
+    pub each_plant : Each (PlantWithin gathered.counts) 1 plants_in
+    pub each_segment : Each (SegmentWithin gathered.counts) 1 segments_in
+    pub small_plants : Small gathered.emissions.plants
+    pub small_segments : Small gathered.emissions.segments
 
-pub record PlantColumnsBy (plants : Plants) (stored associated : List ℕ) (count : ℕ) (r : PlantAccounts) : Type 0 where
-  pub exported : r.exported ≡ plants.exported
-  pub fraction : r.fraction ≡ plants.fraction
-  pub stored_is : r.stored ≡ filled 0 most_plants (take count stored)
-  pub associated_is : r.associated ≡ associated
+  -- ---- its accounts, by the books
+  -- What they ask of the books.
+  pub record Accountable (books : Books) : Type 0 where
+    pub plants_are : books.plants ≡ gathered.counts.plants
+    pub chargeable : (p : ℕ) → p < gathered.counts.plants → Chargeable books p gathered.counts.segments
 
--- The same for segments.
-pub record SegmentsCounted (inflows sets : List ℕ) (count : ℕ) : Type 0 where
-  pub most_segments_is : count ≤ most_segments
-  pub inflows_sized : length inflows ≡ most_segments
-  pub inflows_small : SmallUpTo count inflows
-  pub sets_sized : length sets ≡ most_segments
-  pub sets_small : SmallUpTo count sets
+  abbrev pub plant_account_by : Books → (p : ℕ) → PlantAccount
+  plant_account_by books p = record {
+    exported = (get_or gathered.plants p no_plant).exported;
+    fraction = (get_or gathered.plants p no_plant).fraction;
+    stored = get_or books.stored p 0;
+    associated = get_or gathered.emissions.plants p 0 + charges_by books p gathered.emissions.segments gathered.counts.segments;
+  }
 
-pub record SegmentColumnsBy (segments : Segments) (inflows emission sets : List ℕ) (count : ℕ) (r : SegmentAccounts) : Type 0 where
-  pub inflow_is : r.inflow ≡ filled 0 most_segments (take count inflows)
-  pub outflow : r.outflow ≡ segments.outflow
-  pub emission_is : r.emission ≡ emission
-  pub plants_are : r.plants ≡ filled 0 most_segments (take count sets)
+  abbrev pub segment_account_by : Books → (s : ℕ) → SegmentAccount
+  segment_account_by books s = record {
+    inflow = get_or books.inflows s 0;
+    outflow = (get_or gathered.segments s no_segment).outflow;
+    emission = get_or gathered.emissions.segments s 0;
+    plants = get_or books.sets s 0;
+  }
 
--- ---- a period settled, whatever its lines, as long as the owners emit what the lines say
--- What settling asks of the plants and the segments, and of the emissions.
-pub record Given (plants : Plants) (segments : Segments) (counts : Counts) (emissions : Emissions) : Type 0 where
-  pub counts_within : CountsWithin counts
-  pub each_plant : Each (PlantWithin counts) 1 (plants_by plants counts.plants)
-  pub each_segment : Each (SegmentWithin counts) 1 (segments_by segments counts.segments)
-  pub plants_filled : PlantRecords plants (plants_by plants counts.plants)
-  pub segments_filled : SegmentRecords segments (segments_by segments counts.segments)
-  pub small : SmallEmissions emissions
+  -- The arrays of them.
+  abbrev pub plant_accounts_by : Books → List PlantAccount
+  plant_accounts_by books = filled no_plant_account most_plants (listed (plant_account_by books) 0 gathered.counts.plants)
 
--- The segment at an index, when its turn comes (rule 5.1).
-abbrev pub due_by : Segments → Emissions → ℕ → Due
-due_by segments emissions s = record { index = s; segment = segment_by segments s; emission = get_or emissions.segments s 0; bytes = emissions.bytes }
+  abbrev pub segment_accounts_by : Books → List SegmentAccount
+  segment_accounts_by books = filled no_segment_account most_segments (listed (segment_account_by books) 0 gathered.counts.segments)
 
--- The settlement of a period by the tests after those of the lines, if so many bytes were read (rules 8.6 and 8.9).
+-- ---- the period settled
+-- By the tests after those of the lines, if so many bytes were read (rules 8.6 and 8.9).
 abbrev pub worked_off : (bytes : ℕ) → Period → Settlement
 worked_off bytes period = settled_by (segment_tests bytes (accounts_of period)) (settled_of period)
 
--- Settling gives that, for all such lines.
-abbrev pub SettledBy : Plants → Segments → Counts → Emissions → Settled → Type 0
-SettledBy plants segments counts emissions r =
-    (lines : List Line) → EmissionsOf counts lines emissions →
-    Settles r (worked_off emissions.bytes (period_of (plants_by plants counts.plants) (segments_by segments counts.segments) lines))
+-- Settling gives that, for all lines by which its owners emit these kg.
+abbrev pub SettledBy : Gathered → Result Settled Refusal → Type 0
+SettledBy gathered r =
+    (lines : List Line) → EmissionsOf gathered lines → Settles r (worked_off gathered.emissions.bytes (period_in gathered lines))
 
--- ---- the code's answer to a refused file
-abbrev pub nothing_kept : Refusal → Settled
-nothing_kept why = record {
-  answer = Refused why;
-  plant_count = 0;
-  segment_count = 0;
-  plants = record {
-    exported = replicate most_plants 0;
-    fraction = replicate most_plants 0;
-    stored = replicate most_plants 0;
-    associated = replicate most_plants 0;
-  };
-  segments = record {
-    inflow = replicate most_segments 0;
-    outflow = replicate most_segments 0;
-    emission = replicate most_segments 0;
-    plants = replicate most_segments 0;
-  };
-}
+-- So it does into lent accounts, which a refusal leaves as they were.
+pub record SettledInto (gathered : Gathered) (before : Settled) (r : Answer) (after : Settled) : Type 0 where
+  pub settles : SettledBy gathered (outcome r after)
+  pub kept : (refusal : Refusal) → r ≡ Err refusal → after ≡ before

@@ -1,6 +1,8 @@
 -- What a file gives before any table is looked at: whether it is refused (1 to 13 and 16), and the figures of every plant and segment.
-use Rattle.std.specs.Prelude.{ℕ, ◌≡◌, List, [], ◌++◌, map, length, get_or}
-use Rattle.fields.specs.Answers.{Notice, Verdict, accepts, refuses, said}
+use Rattle.std.specs.Prelude.{ℕ, ◌≡◌, List, [], ◌++◌, map, length, get_or, Result, Ok, Err}
+use Rattle.fields.specs.declared.answer.Refusal.{Refusal}
+use Rattle.fields.specs.Answers.{Answer, Notice, Verdict, accepts, refuses, refusing}
+use Rattle.fields.specs.Lists.{filled}
 use Rattle.fields.specs.Readers.{Read, read, refused}
 use Rattle.fields.specs.Tests.{Test, tested_by, listed}
 use Rattle.records.specs.Plants.{most_plants, no_plant}
@@ -11,24 +13,12 @@ use Rattle.accounts.specs.Accounts.{Account}
 use Rattle.accounts.specs.Rows.{associated}
 use Rattle.accounts.specs.Order.{segment_tests}
 use Rattle.accounts.specs.Quantified.{accounts_of, stores}
-use Rattle.gathering.specs.Gathered.{gathering_tests, column_of}
-use Rattle.settling.specs.declared.account.PlantAccounts.{PlantAccounts}
-use Rattle.settling.specs.declared.account.SegmentAccounts.{SegmentAccounts}
+use Rattle.gathering.specs.Gathered.{gathering_tests}
+use Rattle.settling.specs.declared.account.PlantAccount.{PlantAccount}
+use Rattle.settling.specs.declared.account.SegmentAccount.{SegmentAccount}
 use Rattle.settling.specs.declared.settling.Settled.{Settled}
 
 -- ---- accounts: what a row is made of
-pub record PlantAccount : Type 0 where
-  pub exported : ℕ
-  pub fraction : ℕ
-  pub stored : ℕ
-  pub associated : ℕ
-
-pub record SegmentAccount : Type 0 where
-  pub inflow : ℕ
-  pub outflow : ℕ
-  pub emission : ℕ
-  pub plants : ℕ
-
 -- The account of the plant at an index from 0; stored is what it has after all turns (rules 5.6 and 6.2).
 abbrev pub plant_account_at : Period → ℕ → PlantAccount
 plant_account_at period index = record {
@@ -82,27 +72,36 @@ unfoldable pub settlement : List ℕ → Settlement
 settlement file = settled_after file (period_file file)
 
 -- ---- the promise of the call
--- The columns of plants, and below of segments.
-pub record PlantColumns (r : PlantAccounts) (accounts : List PlantAccount) : Type 0 where
-  pub exported : r.exported ≡ column_of most_plants (λ (a : PlantAccount). a.exported) accounts
-  pub fraction : r.fraction ≡ column_of most_plants (λ (a : PlantAccount). a.fraction) accounts
-  pub stored : r.stored ≡ column_of most_plants (λ (a : PlantAccount). a.stored) accounts
-  pub associated : r.associated ≡ column_of most_plants (λ (a : PlantAccount). a.associated) accounts
+-- What the arrays of the code hold in an entry without an account.
+abbrev pub no_plant_account : PlantAccount
+no_plant_account = record { exported = 0; fraction = 0; stored = 0; associated = 0 }
 
-pub record SegmentColumns (r : SegmentAccounts) (accounts : List SegmentAccount) : Type 0 where
-  pub inflow : r.inflow ≡ column_of most_segments (λ (a : SegmentAccount). a.inflow) accounts
-  pub outflow : r.outflow ≡ column_of most_segments (λ (a : SegmentAccount). a.outflow) accounts
-  pub emission : r.emission ≡ column_of most_segments (λ (a : SegmentAccount). a.emission) accounts
-  pub plants : r.plants ≡ column_of most_segments (λ (a : SegmentAccount). a.plants) accounts
+abbrev pub no_segment_account : SegmentAccount
+no_segment_account = record { inflow = 0; outflow = 0; emission = 0; plants = 0 }
 
--- What the code's answer says of a settlement: the verdict, how many accounts there are, and their columns.
-pub record Settles (r : Settled) (settled : Settlement) : Type 0 where
-  pub verdict : said r.answer ≡ settled.verdict
+-- What the code hands back of a settlement that is accepted: how many accounts there are, and the accounts.
+pub record Accounted (r : Settled) (settled : Settlement) : Type 0 where
+  pub verdict : accepts ≡ settled.verdict
   pub plant_count_is : r.plant_count ≡ length settled.plants
   pub segment_count_is : r.segment_count ≡ length settled.segments
-  pub plants : PlantColumns r.plants settled.plants
-  pub segments : SegmentColumns r.segments settled.segments
+  pub plants : r.plants ≡ filled no_plant_account most_plants settled.plants
+  pub segments : r.segments ≡ filled no_segment_account most_segments settled.segments
+
+-- What the code's answer says of a settlement: the accounts, or why there are none.
+abbrev pub Settles : Result Settled Refusal → Settlement → Type 0
+Settles (Ok r) settled = Accounted r settled
+Settles (Err refusal) settled = refusing refusal ≡ settled.verdict
 
 -- The promise of `settle`: its answer is the settlement of the file (rules 4.1 to 6.2, 8.1 to 8.6, 8.9 and 8.10).
-abbrev pub SettlePromise : List ℕ → Settled → Type 0
+abbrev pub SettlePromise : List ℕ → Result Settled Refusal → Type 0
 SettlePromise file r = Settles r (settlement file)
+
+-- The same of what the code answers and of what it leaves in lent accounts.
+abbrev pub outcome : Answer → Settled → Result Settled Refusal
+outcome (Ok done) settled = Ok settled
+outcome (Err refusal) settled = Err refusal
+
+-- `settle_into`: the answer and the accounts are that settlement; a refusal leaves the accounts as they were.
+pub record SettleIntoPromise (file : List ℕ) (before : Settled) (r : Answer) (after : Settled) : Type 0 where
+  pub settles : SettlePromise file (outcome r after)
+  pub kept : (refusal : Refusal) → r ≡ Err refusal → after ≡ before

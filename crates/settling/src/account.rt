@@ -1,88 +1,87 @@
-// The figures that the rows of plants and segments are made of, column by column, with zeros behind the last (rules 7.1 and 7.2).
-ghost use Rattle.std.specs.Prelude.{◌≡◌, ◌≤◌, length, replicate, take};
-ghost use Rattle.fields.specs.Lists.{filled};
-ghost use Rattle.settling.specs.Inside.{PlantColumnsBy, PlantsCounted, SegmentColumnsBy, SegmentsCounted, SmallUpTo};
+// The figures that the rows of plants and segments are made of, one account for each (rules 7.1 and 7.2).
+ghost use Rattle.std.specs.Prelude.{◌≡◌, ◌≤◌};
+ghost use Rattle.records.specs.Segments.{most_segments};
+ghost use Rattle.settling.specs.Inside.{Accountable, Given, plant_accounts_by, segment_accounts_by};
 
-use gathering::{Emissions, Plants, Segments};
+use crate::flow::Books;
+use gathering::Gathered;
 use records::{Plant, Segment};
 
-#[derive(Drop)]
-pub struct PlantAccounts {
-    // What each plant exported, in kg, and its origin fraction, in millionths (rule 2.4).
-    pub exported: [u32; Plant::MOST],
-    pub fraction: [u32; Plant::MOST],
-    // What is stored for it and what is associated with it, in kg (rules 5.6 and 6.2).
-    pub stored: [u32; Plant::MOST],
-    pub associated: [u64; Plant::MOST],
+// A plant's figures, in kg but for the fraction.
+#[derive(Clone, Copy)]
+pub struct PlantAccount {
+    // What it exported, and its origin fraction, in millionths (rule 2.4).
+    pub exported: u32,
+    pub fraction: u32,
+    // What is stored for it and what is associated with it (rules 5.6 and 6.2).
+    pub stored: u32,
+    pub associated: u64,
 }
 
-#[derive(Drop)]
-pub struct SegmentAccounts {
-    // The inflow of each segment, its metered outflow and its emission, in kg (rules 2.5, 4.3 and 5.3).
-    pub inflow: [u32; Segment::MOST],
-    pub outflow: [u32; Segment::MOST],
-    pub emission: [u64; Segment::MOST],
+// A segment's figures, in kg but for the set.
+#[derive(Clone, Copy)]
+pub struct SegmentAccount {
+    // Its inflow, its metered outflow and its emission (rules 2.5, 4.3 and 5.3).
+    pub inflow: u32,
+    pub outflow: u32,
+    pub emission: u64,
     // The set of the plants whose routes pass it, plant 1 in the lowest bit (rule 5.7).
-    pub plants: [u32; Segment::MOST],
+    pub plants: u32,
 }
 
-// The accounts of `count` plants, by what is stored for each and associated with it.
-pub(crate) fn plant_accounts(
-    plants: Plants,
-    stored: [u64; Plant::MOST],
-    associated: [u64; Plant::MOST],
-    count: usize,
-) -> PlantAccounts
-    requires { PlantsCounted stored count }
-    ensures { PlantColumnsBy plants stored associated count result }
-{
-    let mut kept = [0u32; Plant::MOST];
-    narrow(&stored, &mut kept, count);
-    let exported = plants.exported;
-    let fraction = plants.fraction;
-    PlantAccounts {
-        exported,
-        fraction,
-        stored: kept,
-        associated,
+// What stands behind the last account of a plant, and of a segment.
+pub(crate) const NO_PLANT_ACCOUNT: PlantAccount = PlantAccount {
+    exported: 0,
+    fraction: 0,
+    stored: 0,
+    associated: 0,
+};
+
+pub(crate) const NO_SEGMENT_ACCOUNT: SegmentAccount = SegmentAccount {
+    inflow: 0,
+    outflow: 0,
+    emission: 0,
+    plants: 0,
+};
+
+impl Books {
+    // The accounts of the plants, and zeros behind them: what is associated with each is what it emits itself, and what it is charged on its route
+    // (rule 6.2).
+    pub(crate) fn plant_accounts(&self, gathered: &Gathered) -> [PlantAccount; Plant::MOST]
+        requires given { Given gathered.now }
+        requires accountable { Accountable gathered.now self.now }
+        ensures { result ≡ plant_accounts_by gathered.now self.now }
+    {
+        let emissions = &gathered.emissions;
+        let segments = gathered.counts.segments as usize;
+        let mut accounts = [NO_PLANT_ACCOUNT; Plant::MOST];
+        for (p, plant) in gathered.plants[..self.plants].iter().enumerate() {
+            let charges = self.charges(p, &emissions.segments, segments);
+            accounts[p] = PlantAccount {
+                exported: plant.exported,
+                fraction: plant.fraction,
+                stored: self.stored[p],
+                associated: emissions.plants[p] + charges,
+            };
+        }
+        accounts
     }
-}
 
-// The accounts of `count` segments, by the inflow, the emission and the set of each.
-pub(crate) fn segment_accounts(
-    segments: Segments,
-    inflows: [u64; Segment::MOST],
-    emissions: Emissions,
-    sets: [u64; Segment::MOST],
-    count: usize,
-) -> SegmentAccounts
-    requires { SegmentsCounted inflows sets count }
-    ensures { SegmentColumnsBy segments inflows emissions.segments sets count result }
-{
-    let mut inflow = [0u32; Segment::MOST];
-    narrow(&inflows, &mut inflow, count);
-    let mut plants = [0u32; Segment::MOST];
-    narrow(&sets, &mut plants, count);
-    let outflow = segments.outflow;
-    let emission = emissions.segments;
-    SegmentAccounts {
-        inflow,
-        outflow,
-        emission,
-        plants,
-    }
-}
-
-// Copies the first `count` numbers of a column into one of 32 bits, which had zeros.
-fn narrow(from: &[u64], to: &mut [u32], count: usize)
-    requires count_in_bounds { (count ≤ length from.now) × (count ≤ length to.old) }
-    requires small_up_to { SmallUpTo count from.now }
-    requires to_value { to.old ≡ replicate (length to.old) 0 }
-    ensures { to.new ≡ filled 0 (length to.old) (take count from.now) }
-{
-    let mut i = 0;
-    while i < count {
-        to[i] = from[i] as u32;
-        i += 1;
+    // The accounts of the segments, and zeros behind them.
+    pub(crate) fn segment_accounts(&self, gathered: &Gathered) -> [SegmentAccount; Segment::MOST]
+        requires { gathered.now.counts.segments ≤ most_segments }
+        ensures { result ≡ segment_accounts_by gathered.now self.now }
+    {
+        let segments = gathered.counts.segments as usize;
+        let mut accounts = [NO_SEGMENT_ACCOUNT; Segment::MOST];
+        for (s, segment) in gathered.segments[..segments].iter().enumerate() {
+            accounts[s] = SegmentAccount {
+                inflow: self.inflows[s],
+                outflow: segment.outflow,
+                emission: gathered.emissions.segments[s],
+                plants: self.sets[s],
+            };
+        }
+        accounts
     }
 }

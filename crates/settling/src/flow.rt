@@ -1,22 +1,16 @@
 // Inflow and credit: the plants' amounts on their way, in a table of plants by segments (rules 5.1 to 5.7).
 // A plant has 0 at a segment that its route does not pass; a segment's set tells which plants pass it, also those that bring 0.
-ghost use Rattle.std.specs.Prelude.{◌≡◌, [], ◌∷◌, ◌^◌, ◌≤◌, ◌<◌, suc, length, replicate, take};
+ghost use Rattle.std.specs.Prelude.{◌≡◌, ◌≤◌, ◌<◌, ℕ, suc, [], length, get_or, take};
 ghost use Rattle.number.specs.Groups.{largest};
-ghost use Rattle.fields.specs.Answers.{said};
 ghost use Rattle.fields.specs.Lists.{sum, Each};
 ghost use Rattle.records.specs.Plants.{most_plants};
 ghost use Rattle.records.specs.Segments.{most_segments};
 ghost use Rattle.records.specs.Within.{PlantWithin, SegmentWithin, most_counts};
 ghost use Rattle.accounts.specs.Flow.{credits as credits_of};
 ghost use Rattle.accounts.specs.Accounts.{has_bit};
-ghost use Rattle.accounts.specs.Order.{segment_tests};
-ghost use Rattle.settling.specs.Books.{BooksSized, books_of, column, figures, Passes, Sent, Sized, Started, Stored, Worked};
-ghost use Rattle.settling.specs.Kept.{plants_by};
-ghost use Rattle.settling.specs.Inside.{Small};
 
 use crate::arithmetic::rounded_down;
-use fields::{Answer, Reason};
-use gathering::Plants;
+use fields::{Answer, Reason, refused};
 use number::Number;
 use records::{Plant, Segment};
 
@@ -29,171 +23,164 @@ pub(crate) struct Due {
     pub(crate) bytes: u64,
 }
 
-// Puts every plant's export at its first segment, and the plant into that segment's set (rules 5.2 and 5.7).
-pub(crate) fn start(
-    amounts: &mut [[u32; Segment::MOST]; Plant::MOST],
-    sets: &mut [u64; Segment::MOST],
-    plants: Plants,
-    count: usize,
-)
-    requires count_le_most_plants { count ≤ most_plants }
-    requires each { Each (PlantWithin most_counts) 1 (plants_by plants count) }
-    requires amounts_value { amounts.old ≡ replicate most_plants (replicate most_segments 0) }
-    requires sets_value { sets.old ≡ replicate most_segments 0 }
-    ensures { Started (plants_by plants count) amounts.new sets.new }
-{
-    let mut p = 0;
-    while p < count {
-        let first = plants.first[p] as usize - 1;
-        amounts[p][first] = plants.exported[p];
-        sets[first] |= 1 << p;
-        p += 1;
+impl Due {
+    ghost use Rattle.settling.specs.Books.{Tested};
+
+    // The tests of the segment with this inflow, in their order; a refusal has its number as place, and the length of what was read as offset
+    // (rules 8.6 and 8.9).
+    fn test(self, inflow: u64) -> Answer
+        requires { self.index < most_segments }
+        ensures { Tested self inflow result }
+    {
+        let own = self.index as u64 + 1;
+        if Number::LARGEST < inflow {
+            return refused(Reason::InflowTooLarge, own, self.bytes);
+        }
+        if inflow < self.segment.outflow as u64 {
+            return refused(Reason::OutflowOverInflow, own, self.bytes);
+        }
+        if 0 < self.emission && inflow == 0 {
+            return refused(Reason::EmissionWithoutInflow, own, self.bytes);
+        }
+        Ok(())
     }
 }
 
-// Works one segment: tests it, notes its inflow, and sends the plants of its set on with their credits (rules 5.3 to 5.7 and 8.6).
-pub(crate) fn work(
-    amounts: &mut [[u32; Segment::MOST]; Plant::MOST],
-    sets: &mut [u64; Segment::MOST],
-    inflows: &mut [u64; Segment::MOST],
-    stored: &mut [u64; Plant::MOST],
-    plants: usize,
-    due: Due,
-) -> Answer
-    requires plants_le_most_plants { plants ≤ most_plants }
-    requires index_lt_most_segments { due.index < most_segments }
-    requires segment_within { SegmentWithin most_counts (suc due.index) due.segment }
-    requires books_sized { BooksSized (books_of amounts.old sets.old inflows.old stored.old) }
-    requires amounts_bound { sum (column plants due.index amounts.old) < 2 ^ 64 }
-    ensures { Worked plants due (books_of amounts.old sets.old inflows.old stored.old) result (books_of amounts.new sets.new inflows.new stored.new) }
-{
-    let s = due.index;
-    let segment = due.segment;
-    let outflow = segment.outflow as u64;
-    let inflow = inflow_of(amounts, plants, s);
-    let answer = test(s as u64 + 1, inflow, outflow, due.emission, due.bytes);
-    if let Answer::Refused(_refusal) = answer {
-        return answer;
-    }
-    inflows[s] = inflow;
-    let credits = credits(amounts, plants, s, inflow, outflow);
-    let set = sets[s];
-    let next = segment.next as usize;
-    if next == 0 {
-        store(stored, plants, set, credits);
-    } else {
-        send(amounts, plants, set, credits, next - 1);
-        sets[next - 1] |= set;
-    }
-    answer
+// The books, while the segments have their turns.
+#[derive(Drop)]
+pub(crate) struct Books {
+    // What each plant brings to each segment, by their indexes (rule 5.2).
+    pub(crate) amounts: [[u32; Segment::MOST]; Plant::MOST],
+    // How many plants there are. It stands here so that the table above is cleared by itself, which takes fewer instructions than all zeros at once.
+    pub(crate) plants: usize,
+    // Which plants pass each segment, and its inflow once it had its turn (rules 5.3 and 5.7).
+    pub(crate) sets: [u32; Segment::MOST],
+    pub(crate) inflows: [u32; Segment::MOST],
+    // What is stored for each plant (rule 5.6).
+    pub(crate) stored: [u32; Plant::MOST],
+    ghost few: { plants ≤ most_plants },
+    ghost rows: { length amounts ≡ most_plants },
+    ghost columns: { (p : ℕ) → p < most_plants → length (get_or amounts p []) ≡ most_segments },
+    ghost sets_sized: { length sets ≡ most_segments },
+    ghost inflows_sized: { length inflows ≡ most_segments },
+    ghost stored_sized: { length stored ≡ most_plants },
 }
 
-// The inflow: what all plants bring. One whose route does not pass has 0 there (rule 5.3).
-fn inflow_of(amounts: &[[u32; Segment::MOST]; Plant::MOST], plants: usize, s: usize) -> u64
-    requires plants_le_most_plants { plants ≤ most_plants }
-    requires s_lt_most_segments { s < most_segments }
-    requires sized { Sized amounts.now }
-    requires amounts_bound { sum (column plants s amounts.now) < 2 ^ 64 }
-    ensures { result ≡ sum (column plants s amounts.now) }
-{
-    let mut inflow = 0;
-    let mut p = 0;
-    while p < plants {
-        inflow += amounts[p][s] as u64;
-        p += 1;
-    }
-    inflow
-}
+impl Books {
+    ghost use Rattle.settling.specs.Books.{Blank, Brought, column, Sent, Started, Worked};
 
-// The tests of the segment with its own number, in their order; a refusal has the length of what was read as offset (rules 8.6 and 8.9).
-fn test(own: u64, inflow: u64, outflow: u64, emission: u64, bytes: u64) -> Answer
-    ensures { Passes (said result) (segment_tests bytes (figures own inflow outflow emission ∷ [])) }
-{
-    if Number::LARGEST < inflow {
-        return Answer::refused(Reason::InflowTooLarge, own, bytes);
+    // The books of so many plants, in which nothing is written yet.
+    pub(crate) fn new(plants: usize) -> Books
+        requires { plants ≤ most_plants }
+        ensures { Blank plants result }
+    {
+        Books {
+            amounts: [[0; Segment::MOST]; Plant::MOST],
+            plants,
+            sets: [0; Segment::MOST],
+            inflows: [0; Segment::MOST],
+            stored: [0; Plant::MOST],
+        }
     }
-    if inflow < outflow {
-        return Answer::refused(Reason::OutflowOverInflow, own, bytes);
-    }
-    if 0 < emission && inflow == 0 {
-        return Answer::refused(Reason::EmissionWithoutInflow, own, bytes);
-    }
-    Answer::Accepted
-}
 
-// Every plant's credit, plant after plant, by the running sums of the amounts (rule 5.4).
-fn credits(
-    amounts: &[[u32; Segment::MOST]; Plant::MOST],
-    plants: usize,
-    s: usize,
-    inflow: u64,
-    outflow: u64,
-) -> [u64; Plant::MOST]
-    requires plants_le_most_plants { plants ≤ most_plants }
-    requires s_lt_most_segments { s < most_segments }
-    requires sized { Sized amounts.now }
-    requires inflow_value { inflow ≡ sum (column plants s amounts.now) }
-    requires inflow_le_largest { inflow ≤ largest }
-    requires outflow_le_inflow { outflow ≤ inflow }
-    ensures { take plants result ≡ credits_of outflow (column plants s amounts.now) }
-{
-    let mut credits = [0u64; Plant::MOST];
-    // the sum of the amounts so far, and its part of the outflow
-    let mut so_far = 0;
-    let mut shared = 0;
-    let mut p = 0;
-    while p < plants {
-        so_far += amounts[p][s] as u64;
-        let part = rounded_down(so_far * outflow, inflow);
-        credits[p] = part - shared;
-        shared = part;
-        p += 1;
+    // Puts every plant's export at its first segment, and the plant into that segment's set (rules 5.2 and 5.7).
+    #[tactic(auto, using(crate::proofs::Starting::first_least, crate::proofs::Starting::first_most))]
+    pub(crate) fn start(&mut self, plants: &[Plant])
+        requires blank { Blank (length plants.now) self.old }
+        requires each { Each (PlantWithin most_counts) 1 plants.now }
+        ensures { Started plants.now self.new }
+    {
+        for (p, plant) in plants.iter().enumerate() {
+            let first = plant.first as usize;
+            self.bring(p, first, plant.exported);
+            self.sets[first - 1] |= 1 << p;
+        }
     }
-    credits
+
+    // Works one segment: tests it, notes its inflow, and sends the plants of its set on with their credits (rules 5.3 to 5.7 and 8.6).
+    pub(crate) fn work(&mut self, due: Due) -> Answer
+        requires index { due.index < most_segments }
+        requires segment { SegmentWithin most_counts (suc due.index) due.segment }
+        ensures { Worked due self.old result self.new }
+    {
+        let s = due.index;
+        let inflow = self.inflow(s);
+        due.test(inflow)?;
+        self.inflows[s] = inflow as u32;
+        let credits = self.credits(s, inflow, due.segment.outflow as u64);
+        let set = self.sets[s];
+        let next = due.segment.next as usize;
+        self.send(set, &credits, next);
+        if next != 0 {
+            self.sets[next - 1] |= set;
+        }
+        Ok(())
+    }
+
+    // The inflow of the segment at an index: what all plants bring. One whose route does not pass has 0 there (rule 5.3).
+    fn inflow(&self, s: usize) -> u64
+        requires { s < most_segments }
+        ensures { result ≡ sum (column self.now s) }
+    {
+        // A loop: of a chain with `map` and `sum` it was not proved that the sum fits.
+        let mut inflow = 0;
+        for row in &self.amounts[..self.plants] {
+            inflow += row[s] as u64;
+        }
+        inflow
+    }
+
+    // Every plant's credit at the segment at an index, plant after plant, by the running sums of the amounts (rule 5.4).
+    fn credits(&self, s: usize, inflow: u64, outflow: u64) -> [u32; Plant::MOST]
+        requires s_lt_most_segments { s < most_segments }
+        requires inflow_value { inflow ≡ sum (column self.now s) }
+        requires inflow_le_largest { inflow ≤ largest }
+        requires outflow_le_inflow { outflow ≤ inflow }
+        ensures { take self.now.plants result ≡ credits_of outflow (column self.now s) }
+    {
+        let mut credits = [0; Plant::MOST];
+        // the sum of the amounts so far, and its part of the outflow
+        let mut so_far = 0;
+        let mut shared = 0;
+        for (p, row) in self.amounts[..self.plants].iter().enumerate() {
+            so_far += row[s] as u64;
+            let part = rounded_down(so_far * outflow, inflow);
+            credits[p] = (part - shared) as u32;
+            shared = part;
+        }
+        credits
+    }
+
+    // Brings what was credited to the plants of a set to the next segment, by its number, or into the store (rules 5.5 and 5.6).
+    fn send(&mut self, set: u32, credits: &[u32; Plant::MOST], next: usize)
+        requires { next ≤ most_segments }
+        ensures { Sent set credits.now next self.old self.new }
+    {
+        for p in 0..self.plants {
+            if has(set, p) {
+                self.bring(p, next, credits[p]);
+            }
+        }
+    }
+
+    // Notes what a plant brings to the segment with a number, or as stored for it if that is 0 (rules 5.5 and 5.6).
+    fn bring(&mut self, p: usize, number: usize, amount: u32)
+        requires p_lt_plants { p < self.old.plants }
+        requires number_le_most_segments { number ≤ most_segments }
+        ensures { Brought p number amount self.old self.new }
+    {
+        if number == 0 {
+            self.stored[p] = amount;
+        } else {
+            self.amounts[p][number - 1] = amount;
+        }
+    }
 }
 
 // Whether a set has the plant at an index: whether that bit is set (rule 5.7).
-fn has(set: u64, p: usize) -> bool
+fn has(set: u32, p: usize) -> bool
     requires { p < most_plants }
     ensures { result ≡ has_bit set p }
 {
     set >> p & 1 == 1
-}
-
-// Notes what is credited at a store as stored, for the plants of its set (rule 5.6).
-fn store(stored: &mut [u64; Plant::MOST], plants: usize, set: u64, credits: [u64; Plant::MOST])
-    requires plants_le_most_plants { plants ≤ most_plants }
-    requires stored_len { length stored.old ≡ most_plants }
-    ensures { Stored plants set credits stored.old stored.new }
-{
-    let mut p = 0;
-    while p < plants {
-        if has(set, p) {
-            stored[p] = credits[p];
-        }
-        p += 1;
-    }
-}
-
-// Brings what was credited to the next segment, for the plants of a set (rule 5.5).
-fn send(
-    amounts: &mut [[u32; Segment::MOST]; Plant::MOST],
-    plants: usize,
-    set: u64,
-    credits: [u64; Plant::MOST],
-    next: usize,
-)
-    requires plants_le_most_plants { plants ≤ most_plants }
-    requires next_lt_most_segments { next < most_segments }
-    requires sized { Sized amounts.old }
-    requires small { Small (take plants credits) }
-    ensures { Sent plants set credits next amounts.old amounts.new }
-{
-    let mut p = 0;
-    while p < plants {
-        if has(set, p) {
-            amounts[p][next] = credits[p] as u32;
-        }
-        p += 1;
-    }
 }

@@ -9,5 +9,5 @@ mod charges;
 mod flow;
 pub mod settling;
 
-pub use crate::account::{PlantAccounts, SegmentAccounts};
-pub use crate::settling::{Settled, settle};
+pub use crate::account::{PlantAccount, SegmentAccount};
+pub use crate::settling::{Settled, settle, settle_into};

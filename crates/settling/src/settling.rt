@@ -1,112 +1,74 @@
 // A period settled: its file is gathered, and its segments have their turns in rising number (rules 5.1, 8.1 to 8.6 and 8.10).
-ghost use Rattle.std.specs.Prelude.{◌≡◌};
-ghost use Rattle.settling.specs.Settled.{SettlePromise};
-ghost use Rattle.settling.specs.Inside.{Given, nothing_kept, SettledBy};
+ghost use Rattle.settling.specs.Settled.{SettleIntoPromise, SettlePromise};
+ghost use Rattle.settling.specs.Inside.{Given, SettledInto};
 
-use crate::account::{PlantAccounts, SegmentAccounts, plant_accounts, segment_accounts};
-use crate::charges::associated_with;
-use crate::flow::{Due, start, work};
+use crate::account::{NO_PLANT_ACCOUNT, NO_SEGMENT_ACCOUNT, PlantAccount, SegmentAccount};
+use crate::flow::{Books, Due};
 use fields::{Answer, Refusal};
-use gathering::{Emissions, Plants, Segments, gather};
-use records::{Counts, Plant, Segment};
+use gathering::{Gathered, gather};
+use records::{Plant, Segment};
 
-// What a file gives before any table is looked at: the answer, and the counts and accounts of plants and segments, none if it is refused.
+// What an accepted file gives before any table is looked at: how many plants and segments it has, and their accounts, with zeros behind the last.
 #[derive(Drop)]
 pub struct Settled {
-    pub answer: Answer,
     pub plant_count: u32,
     pub segment_count: u32,
-    pub plants: PlantAccounts,
-    pub segments: SegmentAccounts,
+    pub plants: [PlantAccount; Plant::MOST],
+    pub segments: [SegmentAccount; Segment::MOST],
+}
+
+impl Settled {
+    // No accounts yet: what a caller lends to `settle_into`.
+    pub const NOTHING: Settled = Settled {
+        plant_count: 0,
+        segment_count: 0,
+        plants: [NO_PLANT_ACCOUNT; Plant::MOST],
+        segments: [NO_SEGMENT_ACCOUNT; Segment::MOST],
+    };
 }
 
 // Settles a file of any length and content (rules 4.1 to 6.2, 8.1 to 8.6 and 8.10).
-pub fn settle(file: &[u8]) -> Settled
+pub fn settle(file: &[u8]) -> Result<Settled, Refusal>
     ensures { SettlePromise file.now result }
 {
-    let gathered = gather(file);
-    let answer = gathered.answer;
-    if let Answer::Refused(refusal) = answer {
-        return refused(refusal);
-    }
-    let plants = gathered.plants;
-    let segments = gathered.segments;
-    let counts = gathered.counts;
-    let emissions = gathered.emissions;
-    settle_period(plants, segments, counts, emissions)
+    let mut settled = Settled::NOTHING;
+    settle_into(file, &mut settled)?;
+    Ok(settled)
 }
 
-// Settles a period of these plants and segments, whose owners emit these kg (rules 5.1 to 6.2).
-fn settle_period(
-    plants: Plants,
-    segments: Segments,
-    counts: Counts,
-    emissions: Emissions,
-) -> Settled
-    requires { Given plants segments counts emissions }
-    ensures { SettledBy plants segments counts emissions result }
+// The same into what a caller lends, which a refusal leaves as it was: the historian has too little stack for the copies of a Result, one at each
+// step up.
+pub fn settle_into(file: &[u8], settled: &mut Settled) -> Answer
+    ensures { SettleIntoPromise file.now settled.old result settled.new }
 {
-    let plant_count = counts.plants as usize;
-    let segment_count = counts.segments as usize;
-    let mut amounts = [[0u32; Segment::MOST]; Plant::MOST];
-    let mut sets = [0u64; Segment::MOST];
-    let mut inflows = [0u64; Segment::MOST];
-    let mut stored = [0u64; Plant::MOST];
-    start(&mut amounts, &mut sets, plants, plant_count);
-    let mut s = 0;
-    while s < segment_count {
+    // Lent: `?` alone would copy what was gathered.
+    let gathered = gather(file);
+    let gathered = gathered.as_ref().map_err(|refusal| *refusal)?;
+    settle_period(gathered, settled)
+}
+
+// Settles a period that was gathered (rules 5.1 to 6.2). Not inlined, so that its books and what gathering needs are not on the stack together.
+#[inline(never)]
+fn settle_period(gathered: &Gathered, settled: &mut Settled) -> Answer
+    requires { Given gathered.now }
+    ensures { SettledInto gathered.now settled.old result settled.new }
+{
+    let plants = gathered.counts.plants as usize;
+    let segments = gathered.counts.segments as usize;
+    let mut books = Books::new(plants);
+    books.start(&gathered.plants[..plants]);
+    for (s, segment) in gathered.segments[..segments].iter().enumerate() {
         let due = Due {
             index: s,
-            segment: Segment {
-                kind: segments.kind[s],
-                outflow: segments.outflow[s],
-                next: segments.next[s],
-            },
-            emission: emissions.segments[s],
-            bytes: emissions.bytes,
+            segment: *segment,
+            emission: gathered.emissions.segments[s],
+            bytes: gathered.emissions.bytes,
         };
-        let answer = work(
-            &mut amounts,
-            &mut sets,
-            &mut inflows,
-            &mut stored,
-            plant_count,
-            due,
-        );
-        if let Answer::Refused(refusal) = answer {
-            return refused(refusal);
-        }
-        s += 1;
+        books.work(due)?;
     }
-    let associated = associated_with(&amounts, &inflows, emissions, counts);
-    Settled {
-        answer: Answer::Accepted,
-        plant_count: plant_count as u32,
-        segment_count: segment_count as u32,
-        plants: plant_accounts(plants, stored, associated, plant_count),
-        segments: segment_accounts(segments, inflows, emissions, sets, segment_count),
-    }
-}
-
-// What a refused file is settled as.
-fn refused(refusal: Refusal) -> Settled
-    ensures { result ≡ nothing_kept refusal }
-{
-    Settled {
-        answer: Answer::Refused(refusal),
-        plant_count: 0,
-        segment_count: 0,
-        plants: PlantAccounts {
-            exported: [0; Plant::MOST],
-            fraction: [0; Plant::MOST],
-            stored: [0; Plant::MOST],
-            associated: [0; Plant::MOST],
-        },
-        segments: SegmentAccounts {
-            inflow: [0; Segment::MOST],
-            outflow: [0; Segment::MOST],
-            emission: [0; Segment::MOST],
-            plants: [0; Segment::MOST],
-        },
-    }
+    settled.plant_count = plants as u32;
+    settled.segment_count = segments as u32;
+    settled.plants = books.plant_accounts(gathered);
+    settled.segments = books.segment_accounts(gathered);
+    Ok(())
 }

@@ -1,41 +1,47 @@
--- Rows of one length in a table of bytes: the loop that writes them one after another, for plants and for segments.
+-- Rows of one length in a table of bytes: the loop that writes them one after another.
 use Prim.Native.Nat.{ℕ, ◌+◌, ◌*◌, ◌≤◌, ◌<◌}
-use mathlib.Core.Path.{◌≡◌, refl, ap, ◌∙◌}
+use mathlib.Core.Path.{◌≡◌, refl, sym, ap, ◌∙◌}
 use mathlib.Core.List.{List, ◌++◌, flat_map}
+use native.Mathlib.Nat.{mul-le-mul_left, div-mul-le_self}
 use native.Mathlib.Omega.{arith}
-use lib.ListN.{length, take, drop}
-use Rattle.fields.specs.Tests.{listed}
-use Rattle.period.specs.Written.{first_rows}
-use Rattle.period.proofs.RowsWritten.{Writing, writing_start, writing_on, writing_end, rows_on, rows_length}
-use Rattle.plain.specs.Bytes.{number_bytes, eight_bytes, bytes_overwritten}
-use Rattle.plain.proofs.NumbersInBytes.{length_all, bytes_of_both}
+use lib.ListN.{length, take, drop, get_or}
+use lib.Seq.{take-length}
+use Rattle.period.proofs.RowsWritten.{Writing, writing_start, writing_room, writing_on, writing_end, rows_on, first_rows}
+use Rattle.plain.specs.Bytes.{number_bytes, eight_bytes, bytes_overwritten, WriteRowPromise}
+use Rattle.plain.proofs.NumbersInBytes.{length_all, bytes_of_both, row_there}
+use Rattle.tables.specs.Rows.{rows_there}
 
--- of `count` rows, each of `numbers` numbers, the bytes of k are written
-abbrev pub RowsInBytes : (numbers : ℕ) (row : ℕ → List ℕ) (count : ℕ) (entry table : List ℕ) (k : ℕ) → Type 0
-RowsInBytes numbers row = Writing (number_bytes * numbers) (λ (k : ℕ). flat_map eight_bytes (first_rows row k))
+module _ {A : Type 0} (row : A → List ℕ) (all : List A) where
+  -- the bytes of the rows of its first
+  abbrev pub first_bytes : ℕ → List ℕ
+  first_bytes count = flat_map eight_bytes (first_rows row all count)
 
--- none is
-pub bytes_start :
-    (numbers : ℕ) (row : ℕ → List ℕ) (count : ℕ) (entry : List ℕ) → number_bytes * numbers * count ≤ length entry → RowsInBytes numbers row count entry entry 0
-unfolding flat_map listed
-bytes_start numbers row count entry enough = writing_start (number_bytes * numbers) _ count entry enough refl
+  module _ (numbers : ℕ) {entry : List ℕ} where
+    -- none are written, and there is room for all
+    pub bytes_start : length all ≤ rows_there numbers entry → Writing (number_bytes * numbers) first_bytes (length all) entry entry 0
+    unfolding flat_map
+    bytes_start few =
+        let bytes : ℕ = number_bytes * numbers in
+        writing_start bytes first_bytes (length all) entry (omega (arith, mul-le-mul_left bytes few, div-mul-le_self (length entry) bytes)) refl
 
-module _
-    (numbers : ℕ) (row : ℕ → List ℕ) (long : (i : ℕ) → length (row i) ≡ numbers)
-    {count : ℕ} {entry table : List ℕ} {k : ℕ} (w : RowsInBytes numbers row count entry table k) where
-  -- one more is
-  pub bytes_on :
-      k < count → (table' : List ℕ) →
-      table' ≡ take (number_bytes * numbers * k) table ++ flat_map eight_bytes (row k) ++ drop (number_bytes * numbers * k + number_bytes * numbers) table →
-      RowsInBytes numbers row count entry table' (k + 1)
-  bytes_on more table' =
-      writing_on w more (flat_map eight_bytes (row k)) table' (length_all (row k) ∙ ap (λ (n : ℕ). number_bytes * n) (long k))
-      (ap (flat_map eight_bytes) (rows_on row k) ∙ bytes_of_both (first_rows row k) (row k))
+  module _ (numbers : ℕ) {entry table : List ℕ} {k : ℕ} (w : Writing (number_bytes * numbers) first_bytes (length all) entry table k) where
+    -- those of one more row are
+    pub bytes_on :
+        k < length all → (one : A) {written : List ℕ} → one ≡ get_or all k one → written ≡ row one → length written ≡ numbers →
+        (table' : List ℕ) → WriteRowPromise written (number_bytes * numbers * k) table table' →
+        Writing (number_bytes * numbers) first_bytes (length all) entry table' (k + 1)
+    bytes_on more one {written} there is long table' promised =
+        let sized : length (flat_map eight_bytes written) ≡ number_bytes * numbers = length_all written ∙ ap (λ (n : ℕ). number_bytes * n) long in
+        let next = rows_on row all one k more ∙ ap (λ (l : List ℕ). first_rows row all k ++ l) (ap row (sym there) ∙ sym is) in
+        writing_on w more (flat_map eight_bytes written) table' sized
+        (ap (flat_map eight_bytes) next ∙ bytes_of_both (first_rows row all k) written)
+        (row_there table (number_bytes * numbers * k) written table' (omega (arith, long, writing_room w more)) promised
+        ∙ ap (λ (n : ℕ). take (number_bytes * numbers * k) table ++ flat_map eight_bytes written ++ drop (number_bytes * numbers * k + number_bytes * n) table) long)
 
-  -- all are
-  pub bytes_end : (there : ℕ) → count ≡ there → count ≤ k → table ≡ bytes_overwritten (first_rows row there) entry
-  bytes_end there is all =
-      let bytes : number_bytes * numbers * count ≡ number_bytes * length (first_rows row count) = omega (arith, rows_length row numbers long count) in
-      writing_end w all
-      ∙ ap (λ (n : ℕ). flat_map eight_bytes (first_rows row count) ++ drop n entry) bytes
-      ∙ ap (λ (n : ℕ). bytes_overwritten (first_rows row n) entry) is
+    -- all are
+    pub bytes_end : length all ≤ k → table ≡ bytes_overwritten (flat_map row all) entry
+    bytes_end done =
+        let here : k ≡ length all = omega (arith, w.within) in
+        writing_end w done
+        ∙ ap (λ (n : ℕ). first_bytes (length all) ++ drop n entry) (sym (rw here at w.sized) ∙ length_all (first_rows row all (length all)))
+        ∙ ap (λ (l : List A). bytes_overwritten (flat_map row l) entry) (take-length all)

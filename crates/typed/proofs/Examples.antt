@@ -5,7 +5,7 @@ use Prim.Native.String.{String}
 use Prim.Native.String as quoted
 use mathlib.Core.Path.{◌≡◌, refl}
 use mathlib.Core.List.{List, [], ◌∷◌}
-use Rattle.typed.specs.declared.reading.Typed.TheVariants.{Numbers, Stray}
+use Rattle.std.specs.Prelude.{Ok, Err}
 use Rattle.typed.specs.Text.{after, numbers_from, numbers_in, is_stray, before_stray, starts_number, starts_from, starts_in}
 use Rattle.typed.specs.Promises.{answer_to}
 
@@ -22,7 +22,7 @@ pub numbers_of_two_lines : numbers_in two_lines ≡ 12 ∷ 7 ∷ 300 ∷ []
 unfolding numbers_from after
 numbers_of_two_lines = refl
 
-pub answer_to_two_lines : answer_to two_lines ≡ Numbers 3
+pub answer_to_two_lines : answer_to two_lines ≡ Ok 3
 unfolding numbers_from before_stray is_stray after
 answer_to_two_lines = refl
 
@@ -31,7 +31,7 @@ unfolding starts_from starts_number after
 starts_of_two_lines = refl
 
 -- ---- a comma outside a remark is stray
-pub answer_to_a_comma : answer_to (bytes "1 2,3") ≡ Stray 3
+pub answer_to_a_comma : answer_to (bytes "1 2,3") ≡ Err (record { offset = 3; byte = code "," })
 unfolding numbers_from before_stray is_stray after
 answer_to_a_comma = refl
 
@@ -41,6 +41,6 @@ unfolding numbers_from after
 numbers_at_the_limit = refl
 
 -- ---- a text without numbers
-pub answer_to_nothing : answer_to [] ≡ Numbers 0
+pub answer_to_nothing : answer_to [] ≡ Ok 0
 unfolding numbers_from before_stray
 answer_to_nothing = refl

@@ -2,12 +2,13 @@
 use Prim.Native.Nat.{ℕ}
 use mathlib.Core.Path.{◌≡◌, sym, ◌∙◌}
 use mathlib.Core.List.{List}
-use Rattle.typed.specs.declared.reading.Typed.{Typed}
+use Rattle.std.specs.Prelude.{Result}
+use Rattle.typed.specs.declared.reading.Stray.{Stray}
 use Rattle.typed.specs.Promises.{ReadTextPromise, NumberStartPromise}
 
 -- `read_text`: the answer and the list afterwards, of one text and one list before
 pub one_text :
-    (text list : List ℕ) (r s : Typed) (after after' : List ℕ) →
+    (text list : List ℕ) (r s : Result ℕ Stray) (after after' : List ℕ) →
     ReadTextPromise text list r after → ReadTextPromise text list s after' → (r ≡ s) × (after ≡ after')
 one_text text list r s after after' p q = (p.answer ∙ sym q.answer, p.written ∙ sym q.written)
 

@@ -3,11 +3,9 @@
 // A text is numbers in decimal with spaces between them, and remarks; any other byte is stray. Every text has an answer.
 #![tactic(auto)]
 
-mod kinds;
 pub mod reading;
 mod scan;
 pub mod starts;
-mod stray;
 
-pub use crate::reading::{Typed, read_text};
+pub use crate::reading::{Stray, read_text};
 pub use crate::starts::number_start;

@@ -1,34 +1,47 @@
 // Reads a text: its numbers go into a list of plain ones (rules 10.5 and 16.1 to 16.3).
-ghost use Rattle.std.specs.Prelude.{◌+◌, ◌*◌, ◌^◌, ◌<◌, ◌≡◌, length};
-ghost use Rattle.plain.specs.Bytes.{number_bytes, plain_written};
-ghost use Rattle.typed.specs.Text.{ending, ended_by};
-ghost use Rattle.typed.specs.Promises.{ReadTextPromise};
-ghost use Rattle.typed.specs.Inside.{state_of, AllListed, ending_listed, ended_listed};
+ghost use Rattle.std.specs.Prelude.{◌+◌, ◌^◌, ◌<◌, ◌≤◌, ◌≡◌, length, MatchResult};
+ghost use Rattle.std.specs.Option.{option_to_list};
+ghost use Rattle.typed.specs.Text.{first_stray};
+ghost use Rattle.typed.specs.Promises.{ReadTextPromise, stray_in};
+ghost use Rattle.typed.specs.Inside.{AllListed, one_listed};
 
-use crate::kinds::is_digit;
 use crate::scan::Scan;
-use crate::stray::first_stray;
 use plain::{NUMBER_BYTES, room, write_plain};
 
-// The answer to a text.
-#[derive(Drop)]
-pub enum Typed {
-    // How many numbers it has (rule 16.2).
-    Numbers(usize),
-    // The offset of its first stray byte (rule 16.3).
-    Stray(usize),
+// The first byte of a text that does not belong there, and its offset (rule 16.3).
+#[derive(Clone, Copy)]
+pub struct Stray {
+    pub offset: usize,
+    pub byte: u8,
 }
 
-// Reads a text. Its numbers are written from the start of a list on, as far as there is room, with a stray byte taken for a space (rules 16.1 to 16.3).
-pub fn read_text(text: &[u8], numbers: &mut [u8]) -> Typed
+// Reads a text, and answers how many numbers it has. They are written from the start of a list on, as far as there is room, with a stray byte taken
+// for a space (rules 16.1 to 16.3).
+pub fn read_text(text: &[u8], numbers: &mut [u8]) -> Result<usize, Stray>
     ensures { ReadTextPromise text.now numbers.old result numbers.new }
 {
     let count = list_numbers(text, numbers);
-    let stray = first_stray(text);
-    if stray < text.len() {
-        return Typed::Stray(stray);
+    no_stray(text)?;
+    Ok(count)
+}
+
+// Refuses the first stray byte of a text (rule 16.3).
+fn no_stray(text: &[u8]) -> Result<(), Stray>
+    ensures { MatchResult result
+        (λ none. length text.now ≤ first_stray text.now)
+        (λ stray. (first_stray text.now < length text.now) × (stray ≡ stray_in text.now)) }
+{
+    let mut scan = Scan::Between;
+    for (offset, byte) in text.iter().enumerate() {
+        if scan.is_stray(*byte) {
+            return Err(Stray {
+                offset,
+                byte: *byte,
+            });
+        }
+        scan = scan.behind(*byte);
     }
-    Typed::Numbers(count)
+    Ok(())
 }
 
 // Writes all numbers of a text, as far as there is room, and counts them (rule 16.2).
@@ -37,49 +50,24 @@ fn list_numbers(text: &[u8], list: &mut [u8]) -> usize
 {
     let mut scan = Scan::Between;
     let mut count = 0;
-    let mut i = 0;
-    while i < text.len() {
-        let byte = text[i];
-        count = list_ended(list, count, scan, byte);
-        scan = scan.behind(byte);
-        i += 1;
+    for byte in text {
+        count = list_number(list, count, scan.ended_by(*byte));
+        scan = scan.behind(*byte);
     }
-    list_ending(list, count, scan)
+    list_number(list, count, scan.ending())
 }
 
-// Writes the number that a byte ends, if it ends one, behind `count` others, and counts it (rule 16.2).
-fn list_ended(list: &mut [u8], count: usize, scan: Scan, byte: u8) -> usize
-    requires { count + length (ending (state_of scan)) < 2 ^ 64 }
-    ensures value { result ≡ count + length (ended_by (state_of scan) byte) }
-    ensures list_after { list.new ≡ ended_listed (state_of scan) byte list.old count }
+// Writes a number at an index of a list, if there is one, and room for it, and answers the index behind it (rule 10.5).
+fn list_number(list: &mut [u8], index: usize, number: Option<u64>) -> usize
+    requires { index + length (option_to_list number) < 2 ^ 64 }
+    ensures value { result ≡ index + length (option_to_list number) }
+    ensures list_after { list.new ≡ one_listed number list.old index }
 {
-    if is_digit(byte) {
-        return count;
-    }
-    list_ending(list, count, scan)
-}
-
-// The same if no digit follows (rule 16.2).
-fn list_ending(list: &mut [u8], count: usize, scan: Scan) -> usize
-    requires { count + length (ending (state_of scan)) < 2 ^ 64 }
-    ensures value { result ≡ count + length (ending (state_of scan)) }
-    ensures list_after { list.new ≡ ending_listed (state_of scan) list.old count }
-{
-    match scan {
-        Scan::Between => count,
-        Scan::Within(value) => {
-            list_number(list, count, value);
-            count + 1
-        }
-        Scan::Remark => count,
-    }
-}
-
-// Writes a number at an index of a list, if there is room for it (rule 10.5).
-fn list_number(list: &mut [u8], index: usize, number: u64)
-    ensures { list.new ≡ plain_written list.old (number_bytes * index) number }
-{
+    let Some(number) = number else {
+        return index;
+    };
     if index < room(list.len()) {
         write_plain(list, NUMBER_BYTES * index, number);
     }
+    index + 1
 }

@@ -1,15 +1,16 @@
-// Where a byte of a text stands, from one byte to the next (rule 16.2).
+// Where a byte of a text stands, from one byte to the next (rules 16.1 and 16.2).
 ghost use Rattle.std.specs.Prelude.{◌≡◌, true};
-ghost use Rattle.typed.specs.Text.{after, grown, is_digit, is_stray, opened, starts_number};
+ghost use Rattle.std.specs.Option.{option_to_list};
+ghost use Rattle.typed.specs.Text.{after, ended_by, ending, grown, is_digit, is_foreign, is_stray, starts_number};
 ghost use Rattle.typed.specs.Inside.{state_of};
 
-use crate::kinds::{ends_line, is_digit, is_foreign};
 use number::Number;
 
 // The base of decimal numbers.
 const TEN: u64 = 10;
 
 // Between numbers, within a number that has this value so far, or within a remark.
+// The three loops over a text carry it along in two lines each: an iterator would be longer, and one loop needs the state behind the last byte.
 #[derive(Clone, Copy)]
 pub(crate) enum Scan {
     Between,
@@ -18,57 +19,70 @@ pub(crate) enum Scan {
 }
 
 impl Scan {
-    // Behind a byte (rule 16.2).
+    // Behind a byte: a remark goes on up to the end of its line; elsewhere a digit goes on with the value (rule 16.2).
+    #[tactic(auto, unfolding(crate::specs::Text::after))]
     pub(crate) fn behind(self, byte: u8) -> Scan
         ensures { state_of result ≡ after (state_of self) byte }
     {
+        match (self, byte) {
+            (Scan::Remark, b'\r' | b'\n') => Scan::Between,
+            (Scan::Remark, _) => Scan::Remark,
+            (Scan::Between, b'0'..=b'9') => Scan::Within(with_digit(0, byte)),
+            (Scan::Within(value), b'0'..=b'9') => Scan::Within(with_digit(value, byte)),
+            (_, b'#') => Scan::Remark,
+            (_, _) => Scan::Between,
+        }
+    }
+
+    // The number that a byte ends here: none if it is a digit (rule 16.2).
+    pub(crate) fn ended_by(self, byte: u8) -> Option<u64>
+        ensures { option_to_list result ≡ ended_by (state_of self) byte }
+    {
+        if byte.is_ascii_digit() {
+            None
+        } else {
+            self.ending()
+        }
+    }
+
+    // The same if no digit follows, as at the text's end (rule 16.2).
+    pub(crate) fn ending(self) -> Option<u64>
+        ensures { option_to_list result ≡ ending (state_of self) }
+    {
         match self {
-            Scan::Between => behind_open(0, byte),
-            Scan::Within(value) => behind_open(value, byte),
-            Scan::Remark => {
-                if ends_line(byte) {
-                    Scan::Between
-                } else {
-                    Scan::Remark
-                }
-            }
+            Scan::Within(value) => Some(value),
+            Scan::Between | Scan::Remark => None,
         }
     }
 
     // Whether a byte is stray here (rule 16.3).
+    #[tactic(auto, unfolding(crate::specs::Text::is_stray))]
     pub(crate) fn is_stray(self, byte: u8) -> bool
         ensures { result ≡ is_stray (state_of self) byte }
     {
         match self {
-            Scan::Between => is_foreign(byte),
-            Scan::Within(_) => is_foreign(byte),
+            Scan::Between | Scan::Within(_) => is_foreign(byte),
             Scan::Remark => false,
         }
     }
 
     // Whether a number starts with a byte here (rule 16.4).
+    #[tactic(auto, unfolding(crate::specs::Text::starts_number))]
     pub(crate) fn starts(self, byte: u8) -> bool
         ensures { result ≡ starts_number (state_of self) byte }
     {
         match self {
-            Scan::Between => is_digit(byte),
-            Scan::Within(_) => false,
-            Scan::Remark => false,
+            Scan::Between => byte.is_ascii_digit(),
+            Scan::Within(_) | Scan::Remark => false,
         }
     }
 }
 
-// Behind a byte that is in no remark, if the digits before it have this value (rule 16.2).
-fn behind_open(value: u64, byte: u8) -> Scan
-    ensures { state_of result ≡ opened value byte }
+// Whether a byte is neither a digit nor a space, nor starts a remark (rules 16.1 and 16.3).
+fn is_foreign(byte: u8) -> bool
+    ensures { result ≡ is_foreign byte }
 {
-    if is_digit(byte) {
-        return Scan::Within(with_digit(value, byte));
-    }
-    match byte {
-        b'#' => Scan::Remark,
-        _ => Scan::Between,
-    }
+    !matches!(byte, b'0'..=b'9' | b' ' | b'\t' | b'\r' | b'\n' | b'#')
 }
 
 // A value with one digit more; past the limit it is left as it is, so that it never wraps (rule 16.2).
@@ -79,5 +93,5 @@ fn with_digit(value: u64, byte: u8) -> u64
     if Number::LARGEST < value {
         return value;
     }
-    TEN * value + (byte - b'0') as u64
+    TEN * value + u64::from(byte - b'0')
 }

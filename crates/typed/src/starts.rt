@@ -9,17 +9,14 @@ pub fn number_start(text: &[u8], place: u64) -> usize
 {
     let mut scan = Scan::Between;
     let mut before = place;
-    let mut i = 0;
-    while i < text.len() {
-        let byte = text[i];
-        if scan.starts(byte) {
+    for (offset, byte) in text.iter().enumerate() {
+        if scan.starts(*byte) {
             if before == 0 {
-                return i;
+                return offset;
             }
             before -= 1;
         }
-        scan = scan.behind(byte);
-        i += 1;
+        scan = scan.behind(*byte);
     }
-    i
+    text.len()
 }

@@ -1,7 +1,5 @@
 -- What comes of a text, and what is printed for it.
 
--- from the answer on a text to its numbers, or to its fault
-pub mod TextListed
 -- there is room for the numbers
 pub mod Rooms
 -- what is printed stands in the buffer

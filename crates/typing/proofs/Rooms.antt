@@ -1,23 +1,22 @@
 -- The numbers of a text that is not too long have room, and are those of the list.
 use Prim.Native.Nat.{ℕ, ◌*◌, ◌≤◌}
+use Rattle.std.proofs.Common.{Ok, Err}
 use mathlib.Core.Path.{◌≡◌, refl, sym, ap, ◌∙◌}
 use mathlib.Core.Bool.{Bool, true, false, cond, true≢false}
 use mathlib.Core.List.{List}
 use native.Mathlib.Omega.{arith}
 use lib.Dec.{ltb}
-use lib.ListN.{length, get_or, take, length-replicate}
+use lib.ListN.{length, take, length-replicate}
 use borrow.Author.Tests.{ltb-false}
 use Rattle.plain.specs.Bytes.{number_bytes, table_numbers}
 use Rattle.typed.specs.Text.{numbers_in, first_stray}
-use Rattle.typed.specs.Promises.{list_with}
+use Rattle.typed.specs.Promises.{stray_in, list_with}
 use Rattle.typed.proofs.FewNumbers.{few_numbers}
 use Rattle.typed.proofs.Listing.{listed_length}
 use Rattle.typed.proofs.ReadBack.{all_read_back}
 use Rattle.typing.specs.declared.listing.Fault.TheVariants.{Long, Stray}
-use Rattle.typing.specs.declared.listing.Listed.{Listed}
-use Rattle.typing.specs.declared.listing.Listed.TheVariants.{Numbers, Faulty}
 use Rattle.typing.specs.Printed.{most_text}
-use Rattle.typing.specs.Promises.{most_typed, listed_of, ListRoomPromise, ListTextPromise}
+use Rattle.typing.specs.Promises.{most_typed, Listed, listed_of, ListRoomPromise, ListTextPromise}
 
 -- what is known of a text whose numbers are counted
 pub record Counted (text : List ℕ) (count : ℕ) : Type 0 where
@@ -25,31 +24,31 @@ pub record Counted (text : List ℕ) (count : ℕ) : Type 0 where
   pub not_long : ltb most_text (length text) ≡ false
   pub none_stray : ltb (first_stray text) (length text) ≡ false
 
-pub counted : (text : List ℕ) (count : ℕ) → Numbers count ≡ listed_of text → Counted text count
+pub counted : (text : List ℕ) (count : ℕ) → Ok count ≡ listed_of text → Counted text count
 counted text count e = by_tests (ltb most_text (length text)) (ltb (first_stray text) (length text)) refl refl e
   where
     by_tests :
         (long stray : Bool) → ltb most_text (length text) ≡ long → ltb (first_stray text) (length text) ≡ stray →
-        Numbers count
-        ≡ cond long (Faulty Long) (cond stray (Faulty (Stray (first_stray text) (get_or text (first_stray text) 0))) (Numbers (length (numbers_in text)))) →
+        Ok count
+        ≡ cond long (Err Long) (cond stray (Err (Stray (stray_in text))) (Ok (length (numbers_in text)))) →
         Counted text count
     by_tests true stray is so same = absurd (true≢false (cc))
     by_tests false true is so same = absurd (true≢false (cc))
     by_tests false false is so same = record { are_all = cc; not_long = is; none_stray = so }
 
 -- these are no more than there is room for
-few_counted : (text : List ℕ) (count : ℕ) → Numbers count ≡ listed_of text → count ≤ most_typed
+few_counted : (text : List ℕ) (count : ℕ) → Ok count ≡ listed_of text → count ≤ most_typed
 few_counted text count e =
     let known = counted text count e in
     omega (arith, known.are_all, few_numbers text, ltb-false most_text (length text) known.not_long)
 
 -- so the list has them all, from its start on
 module _
-    {text list list' : List ℕ} {r : Listed} (count : ℕ) (sized : length list ≡ number_bytes * most_typed)
-    (listing : ListTextPromise text list r list') (is : r ≡ Numbers count)
+    {text list list' : List ℕ} {count : ℕ} (sized : length list ≡ number_bytes * most_typed)
+    (listing : ListTextPromise text list (Ok count) list')
   where
-    answered : Numbers count ≡ listed_of text
-    answered = sym is ∙ listing.answer
+    answered : Ok count ≡ listed_of text
+    answered = listing.answer
 
     filled : list' ≡ list_with (numbers_in text) list
     filled = listing.written ∙ ap (λ (t : Bool). cond t list (list_with (numbers_in text) list)) (counted text count answered).not_long

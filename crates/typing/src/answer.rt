@@ -1,46 +1,67 @@
-// What is printed for a text, put into the buffer for its file (rule 16.5).
-ghost use Rattle.typing.specs.Promises.{PutFaultPromise, PutWrittenPromise};
+// What is printed for a text (rule 16.5).
+ghost use Rattle.std.specs.Prelude.{ℕ, length, List};
+ghost use Rattle.fields.specs.Answers.{Verdict};
+ghost use Rattle.plain.specs.Bytes.{table_numbers};
+ghost use Rattle.writing.specs.Written.{WrittenBy};
+ghost use Rattle.typing.specs.Promises.{PutAnswerPromise, PutFaultPromise, PutWrittenPromise};
 
-use crate::listing::Fault;
-use crate::room::MOST_TEXT;
-use fields::{Answer, Refusal};
-use output::{put_line, put_refusal};
+use crate::listing::{Fault, list_text};
+use crate::room::{MOST_TEXT, list_room};
+use fields::Refusal;
+use output::Text;
+use plain::NUMBER_BYTES;
 use typed::number_start;
-use writing::Written;
 
-// Puts the line of a text whose numbers are not looked at: L and the limit, or T, the offset and the byte (rule 16.5).
-pub fn put_fault(buffer: &mut [u8], fault: Fault) -> usize
-    ensures { PutFaultPromise fault buffer.old result buffer.new }
+// A kind of file, by how a list is written as one.
+pub trait Kind {
+    // What is said of a list of numbers, with room for so many bytes.
+    ghost verdict: { (numbers : List ℕ) (room : ℕ) → Verdict };
+
+    // Writes the file of a list to the start of a buffer, and answers how many bytes that are; or refuses the list, and leaves the buffer as it was
+    // (rule 15.5).
+    fn write(numbers: &[u8], buffer: &mut [u8]) -> Result<usize, Refusal>
+        ensures { WrittenBy (verdict (table_numbers numbers.now) (length buffer.old)) (table_numbers numbers.now) buffer.old result buffer.new };
+}
+
+// Puts the file of a text's numbers at the start of the room, as all that is printed; or puts the line that says why there is none (rule 16.5).
+pub fn put_answer<K: Kind, const N: usize>(answer: &mut Text<N>, text: &[u8])
+    ensures { PutAnswerPromise K.verdict text.now answer.old.end answer.old.room answer.new.end answer.new.room }
 {
-    match fault {
-        Fault::Long => {
-            let limit = [MOST_TEXT as u64];
-            put_line(buffer, 0, b"L", &limit)
-        }
-        Fault::Stray(offset, byte) => {
-            let stray = [offset as u64, byte as u64];
-            put_line(buffer, 0, b"T", &stray)
+    let mut list = list_room();
+    match list_text(text, &mut list) {
+        Err(fault) => put_fault(answer, fault),
+        Ok(count) => {
+            let bytes = NUMBER_BYTES * count;
+            let written = K::write(&list[..bytes], &mut answer.room);
+            put_written(answer, text, written);
         }
     }
 }
 
-// The byte behind a file that was written; or puts the line of its refusal, with the offset in the text of the number at its place (rule 16.5).
-pub fn put_written(buffer: &mut [u8], text: &[u8], written: Written) -> usize
-    ensures { PutWrittenPromise text.now written buffer.old result buffer.new }
+// Puts the line of a text whose numbers are not looked at: L and the limit, or T, the offset and the byte (rule 16.5).
+pub fn put_fault<const N: usize>(answer: &mut Text<N>, fault: Fault)
+    ensures { PutFaultPromise fault answer.old.end answer.old.room answer.new.end answer.new.room }
 {
-    let answer = written.answer;
-    match answer {
-        Answer::Accepted => written.bytes,
-        Answer::Refused(refusal) => {
-            let reason = refusal.reason;
-            let place = refusal.place;
-            let offset = number_start(text, place) as u64;
-            let in_text = Refusal {
-                reason,
-                place,
-                offset,
-            };
-            put_refusal(buffer, 0, in_text)
+    match fault {
+        Fault::Long => answer.put_line(b"L", &[MOST_TEXT as u64]),
+        Fault::Stray(stray) => answer.put_line(b"T", &[stray.offset as u64, u64::from(stray.byte)]),
+    }
+}
+
+// Lets a file that was written be all that is printed; or puts the line of its refusal, with the offset in the text of the number at its place (rule
+// 16.5).
+pub fn put_written<const N: usize>(
+    answer: &mut Text<N>,
+    text: &[u8],
+    written: Result<usize, Refusal>,
+)
+    ensures { PutWrittenPromise text.now written answer.old.end answer.old.room answer.new.end answer.new.room }
+{
+    match written {
+        Ok(bytes) => answer.end = bytes,
+        Err(refusal) => {
+            let offset = number_start(text, refusal.place) as u64;
+            answer.put_refusal(Refusal { offset, ..refusal });
         }
     }
 }

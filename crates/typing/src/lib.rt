@@ -5,6 +5,6 @@ pub mod answer;
 pub mod listing;
 pub mod room;
 
-pub use crate::answer::{put_fault, put_written};
-pub use crate::listing::{Fault, Listed, list_text};
+pub use crate::answer::{Kind, put_answer, put_fault, put_written};
+pub use crate::listing::{Fault, list_text};
 pub use crate::room::{list_room, text_room};

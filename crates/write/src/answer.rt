@@ -1,44 +1,40 @@
 // What is printed for a text: its period file, or a line that says why there is none (rule 16.5).
-ghost use Rattle.std.specs.Prelude.{◌≤◌, length, take};
-ghost use Rattle.output.specs.Put.{Holds};
+ghost use Rattle.std.specs.Prelude.{◌≡◌, option_copied};
+ghost use Rattle.fields.specs.Written.{write_verdict};
 ghost use Rattle.output.specs.HandedOver.{HandedOver};
-ghost use Rattle.records.specs.Periods.{most_bytes};
+ghost use Rattle.records.specs.Periods.{period};
 ghost use Rattle.write.specs.Printed.{printed_write};
 
-use output::print;
-use plain::NUMBER_BYTES;
-use typing::{Listed, list_room, list_text, put_fault, put_written};
+use fields::Refusal;
+use output::{Text, print};
+use records::Limits;
+use typing::{Kind, put_answer};
 use writing::write_period;
 
-// Prints the answer to the text in the first `bytes` bytes of the room; answers what it printed, or nothing if it could not be written.
-pub(crate) fn print_answer<'a>(
-    rt: &HostRuntime,
-    room: &[u8],
-    bytes: usize,
-    buffer: &'a mut [u8],
-) -> &'a [u8]
-    requires bytes_in_bounds { bytes ≤ length room.now }
-    requires most_bytes_in_bounds { most_bytes ≤ length buffer.old }
-    ensures { HandedOver result.now (printed_write (take bytes room.now)) }
-{
-    let end = put_answer(buffer, &room[..bytes]);
-    let answer = &buffer[..];
-    print(rt, b"write", &answer[..end])
+// Room for what is printed: the longest period file, which is longer than any line. So there is no 14 (rule 16.5).
+pub(crate) const ROOM: usize = Limits::BYTES;
+
+// Period files, as a kind of file.
+struct PeriodFile;
+
+impl Kind for PeriodFile {
+    ghost verdict = { write_verdict period };
+
+    fn write(numbers: &[u8], buffer: &mut [u8]) -> Result<usize, Refusal> {
+        write_period(numbers, buffer)
+    }
 }
 
-// Puts that answer at the start of the buffer, and answers the byte behind it. The list has room for every text, and the buffer for every file: so
-// there is no 14.
-fn put_answer(buffer: &mut [u8], text: &[u8]) -> usize
-    requires { most_bytes ≤ length buffer.old }
-    ensures { Holds (printed_write text.now) result buffer.new }
+// Prints the answer to a text; answers what it printed, or nothing if it could not be written.
+pub(crate) fn print_answer<'a>(
+    rt: &HostRuntime,
+    text: &[u8],
+    answer: &'a mut Text<ROOM>,
+) -> Option<&'a [u8]>
+    requires { answer.old.end ≡ 0 }
+    ensures { HandedOver (option_copied result) (printed_write text.now) }
 {
-    let mut list = list_room();
-    match list_text(text, &mut list) {
-        Listed::Faulty(fault) => put_fault(buffer, fault),
-        Listed::Numbers(count) => {
-            let bytes = NUMBER_BYTES * count;
-            let written = write_period(&list[..bytes], buffer);
-            put_written(buffer, text, written)
-        }
-    }
+    put_answer::<PeriodFile, ROOM>(answer, text);
+    let room = &answer.room[..];
+    print(rt, b"write", &room[..answer.end])
 }

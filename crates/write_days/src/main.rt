@@ -2,20 +2,18 @@
 #![tactic(auto)]
 
 mod answer;
-mod room;
 
-use crate::answer::print_answer;
-use crate::room::room;
-use input::{Input, read_input};
+use crate::answer::{ROOM, print_answer};
+use input::read_input;
+use output::Text;
 use typing::text_room;
 
 // If standard input cannot be read, `read_input` says so, and nothing is printed.
 fn main(rt: HostRuntime) {
     let mut text = text_room();
-    let input = read_input(&rt, b"write_days", &mut text);
-    let Input::File { bytes } = input else {
+    let Some(bytes) = read_input(&rt, b"write_days", &mut text) else {
         return;
     };
-    let mut buffer = room();
-    print_answer(&rt, &text, bytes, &mut buffer);
+    let mut answer = Text::<ROOM>::new();
+    print_answer(&rt, &text[..bytes], &mut answer);
 }

@@ -1,5 +1,6 @@
 -- The loop that writes all numbers of a list, one law for its start, a turn, and its end; and what comes of a list that was tested.
 use Prim.Native.Nat.{ℕ, suc, ◌+◌, ◌*◌, ◌≤◌, ◌<◌}
+use Rattle.std.proofs.Common.{Ok, Err}
 use mathlib.Core.Path.{◌≡◌, refl, sym, ap, ◌∙◌}
 use mathlib.Core.List.{List, [], ◌∷◌, ◌++◌, append-nil}
 use native.Mathlib.Nat.{zero-add, add-zero, suc-add, add-suc}
@@ -11,20 +12,15 @@ use borrow.Author.Tests.{lt-ltb, le-ltb}
 use Rattle.number.specs.Groups.{most_groups}
 use Rattle.number.specs.Writing.{written, fitted, WriteAtPromise}
 use Rattle.number.proofs.WrittenOut.{fits}
-use Rattle.fields.specs.declared.answer.Answer.{Answer}
-use Rattle.fields.specs.declared.answer.Answer.TheVariants.{Accepted, Refused}
 use Rattle.fields.specs.declared.answer.Refusal.{Refusal}
 use Rattle.fields.specs.declared.reason.Reason.TheVariants.{PlantTableShort}
-use Rattle.fields.specs.declared.spot.Spot.{Spot}
-use Rattle.fields.specs.Answers.{Verdict, said, refused_for}
+use Rattle.fields.specs.Answers.{Verdict, accepts, refusing}
 use Rattle.fields.specs.Readers.{Reader, Read}
 use Rattle.fields.specs.Files.{file_read, read_verdict}
 use Rattle.fields.specs.Written.{file_of, fitting, write_verdict, buffer_after}
 use Rattle.fields.proofs.WrittenFiles.{file_none, file_more, file_both, file_most, list_as_file}
-use Rattle.writing.specs.declared.bytes.Written.{Written}
-use Rattle.writing.specs.declared.list.Tested.{Tested}
-use Rattle.writing.specs.Written.{WrittenBy}
-use Rattle.writing.specs.Inside.{said_of}
+use Rattle.writing.specs.Written.{Written, WrittenBy}
+use Rattle.writing.specs.Inside.{TestedWhole}
 
 -- bytes set one after another, and others behind them
 sets_both : (buffer : List ℕ) (at : ℕ) (front behind : List ℕ) → sets buffer at (front ++ behind) ≡ sets (sets buffer at front) (at + length front) behind
@@ -93,37 +89,41 @@ module _ (numbers before : List ℕ) where
         ∙ sets-eq (file_of numbers) before 0 (omega (arith, room))
         ∙ ap (λ (k : ℕ). file_of numbers ++ drop k before) (zero-add (length (file_of numbers)))
 
--- ---- what comes of a list that was tested
-module _ (numbers buffer : List ℕ) where
-  abbrev bytes : ℕ
-  bytes = length (file_of numbers)
-
+-- ---- what comes of an accepted list whose file has this many bytes
+module _ (numbers buffer : List ℕ) {bytes : ℕ} (counted : bytes ≡ length (file_of numbers)) where
   -- the verdict on it, with the room of the buffer
-  abbrev Comes : Tested → Written → List ℕ → Type 0
-  Comes tested = WrittenBy (fitting bytes (length buffer) (said_of tested)) numbers buffer
+  abbrev Comes : Written → List ℕ → Type 0
+  Comes = WrittenBy (fitting bytes (length buffer) accepts) numbers buffer
 
-  -- it was refused: nothing is written
-  pub refused_so : (refusal : Refusal) → Comes (Tested.Refused refusal) (record { answer = Refused refusal; bytes = 0 }) buffer
-  refused_so refusal = record { answer = refl; bytes = refl; stands = refl }
+  -- the buffer is too short
+  pub short_so : length buffer < bytes → Comes (Err (record { reason = PlantTableShort; place = bytes; offset = bytes })) buffer
+  short_so short = rw (lt-ltb (length buffer) bytes short) (record { answer = refl; stands = refl })
 
-  module _ (end : Spot) (ends : end.byte ≡ bytes) where
-    -- the buffer is too short
-    pub short_so :
-        (answer : Answer) → length buffer < end.byte → answer ≡ refused_for PlantTableShort end.byte end.byte →
-        Comes (Tested.Whole end) (record { answer = answer; bytes = 0 }) buffer
-    short_so answer short is =
-        rw (lt-ltb (length buffer) bytes (rw ends at short)) (record { answer = ap said is ∙ rw ends refl; bytes = refl; stands = refl })
+  -- it has room: the file is written
+  pub written_so : {buffer' : List ℕ} → bytes ≤ length buffer → buffer' ≡ buffer_after (file_of numbers) buffer → Comes (Ok bytes) buffer'
+  written_so enough is = rw (le-ltb (length buffer) bytes enough) (record { answer = refl; stands = (counted, is) })
 
-    -- it has room: the file is written
-    pub written_so :
-        (buffer' : List ℕ) → end.byte ≤ length buffer → buffer' ≡ buffer_after (file_of numbers) buffer →
-        Comes (Tested.Whole end) (record { answer = Accepted; bytes = end.byte }) buffer'
-    written_so buffer' enough is = rw (le-ltb (length buffer) bytes (rw ends at enough)) (record { answer = refl; bytes = ends; stands = is })
+-- ---- a list that was tested is answered as its file is read, and then by the room
+module _ {A : Type 0} (reader : Reader A) (numbers buffer : List ℕ) where
+  by_room :
+      (verdict : Verdict) → verdict ≡ read_verdict (file_read reader (file_of numbers)) →
+      fitting (length (file_of numbers)) (length buffer) verdict ≡ write_verdict reader numbers (length buffer)
+  unfolding write_verdict
+  by_room verdict e =
+      ap (fitting (length (file_of numbers)) (length buffer)) (e ∙ ap (λ (outcome : Read A). read_verdict outcome) (sym (list_as_file reader numbers)))
 
--- a list is answered as its file is read, and then by the room
-pub tested_verdict :
-    {A : Type 0} (reader : Reader A) (numbers : List ℕ) (room : ℕ) (said_is : Verdict) → said_is ≡ read_verdict (file_read reader (file_of numbers)) →
-    fitting (length (file_of numbers)) room said_is ≡ write_verdict reader numbers room
-unfolding write_verdict
-tested_verdict {A} reader numbers room said_is e =
-    ap (fitting (length (file_of numbers)) room) (e ∙ ap (λ (outcome : Read A). read_verdict outcome) (sym (list_as_file reader numbers)))
+  abbrev Tested : Written → Type 0
+  Tested = TestedWhole (read_verdict (file_read reader (file_of numbers))) numbers
+
+  abbrev Answered : Written → List ℕ → Type 0
+  Answered = WrittenBy (write_verdict reader numbers (length buffer)) numbers buffer
+
+  -- it is refused: nothing is written
+  pub refused_so : {refusal : Refusal} → Tested (Err refusal) → Answered (Err refusal) buffer
+  refused_so {refusal} tested = record { answer = by_room (refusing refusal) tested.says; stands = refl }
+
+  -- it is not: the room decides
+  pub tested_so :
+      {bytes : ℕ} {r : Written} {buffer' : List ℕ} → Tested (Ok bytes) → WrittenBy (fitting bytes (length buffer) accepts) numbers buffer r buffer' →
+      Answered r buffer'
+  tested_so tested wrote = record { answer = wrote.answer ∙ rw tested.counted (by_room accepts tested.says); stands = wrote.stands }

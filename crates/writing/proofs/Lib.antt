@@ -1,7 +1,5 @@
 -- Spots of a list, and of its file.
 pub mod ListSpots
--- The records of each kind.
-pub mod RecordKinds
 -- A sheet by its parts.
 pub mod SheetParts
 -- The bytes, one number after another.

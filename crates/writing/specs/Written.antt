@@ -1,18 +1,31 @@
--- The promises of writing a file from a list: the answer, how many bytes are written, and the buffer afterwards.
-use Rattle.std.specs.Prelude.{◌≡◌, List, length, ℕ}
-use Rattle.fields.specs.Answers.{Verdict, said}
+-- The promises of writing a file from a list: how many bytes are written or why none, and the buffer afterwards.
+use Rattle.std.specs.Prelude.{◌≡◌, List, length, ℕ, Result, Ok, Err}
+use Rattle.fields.specs.declared.answer.Refusal.{Refusal}
+use Rattle.fields.specs.Answers.{Verdict, accepts, refusing}
 use Rattle.fields.specs.Readers.{Reader}
-use Rattle.fields.specs.Written.{file_of, write_verdict, written_by, buffer_after}
+use Rattle.fields.specs.Written.{file_of, write_verdict, buffer_after}
 use Rattle.plain.specs.Bytes.{table_numbers}
 use Rattle.meter.specs.Sheets.{sheet}
 use Rattle.records.specs.Periods.{period}
-use Rattle.writing.specs.declared.bytes.Written.{Written}
 
--- What comes of a verdict on a list of numbers: it is answered; an accepted list's file stands at the start of the buffer, and is counted (rule 15.5).
+-- What the code answers: how many bytes it wrote, or why none.
+abbrev pub Written : Type 0
+Written = Result ℕ Refusal
+
+-- What such an answer says, whatever comes with its acceptance.
+abbrev pub told : {A : Type 0} → Result A Refusal → Verdict
+told (Ok what) = accepts
+told (Err refusal) = refusing refusal
+
+-- An accepted list's file stands at the start of the buffer, and is counted; a refusal leaves the buffer as it was (rule 15.5).
+abbrev pub Stands : (numbers buffer : List ℕ) → Written → (buffer' : List ℕ) → Type 0
+Stands numbers buffer (Ok bytes) buffer' = (bytes ≡ length (file_of numbers)) × (buffer' ≡ buffer_after (file_of numbers) buffer)
+Stands numbers buffer (Err refusal) buffer' = buffer' ≡ buffer
+
+-- What comes of a verdict on a list of numbers: it is told, and then the one or the other (rule 15.5).
 pub record WrittenBy (verdict : Verdict) (numbers buffer : List ℕ) (r : Written) (buffer' : List ℕ) : Type 0 where
-  pub answer : said r.answer ≡ verdict
-  pub bytes : r.bytes ≡ length (written_by verdict (file_of numbers))
-  pub stands : buffer' ≡ buffer_after (written_by verdict (file_of numbers)) buffer
+  pub answer : told r ≡ verdict
+  pub stands : Stands numbers buffer r buffer'
 
 -- A list, as bytes, is written as a reader reads (rules 15.1 to 15.5).
 abbrev pub Writes : {A : Type 0} → Reader A → (numbers buffer : List ℕ) → Written → (buffer' : List ℕ) → Type 0

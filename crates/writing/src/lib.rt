@@ -4,12 +4,11 @@
 // a refusal leaves the buffer as it was. The tests of fields are those of the reader.
 #![tactic(auto)]
 
-pub mod bytes;
+mod bytes;
 mod list;
 pub mod period;
 mod record;
 pub mod sheet;
 
-pub use crate::bytes::Written;
 pub use crate::period::write_period;
 pub use crate::sheet::write_sheet;

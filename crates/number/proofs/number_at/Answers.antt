@@ -1,46 +1,47 @@
 -- `number::number_at` meets its contract: what was gathered from the byte on decides the case. Assumes nothing.
 use Prim.Native.Nat.{ℕ, ◌-◌}
-use mathlib.Core.Path.{refl, ◌≡◌, sym, ap, ◌∙◌}
-use native.Mathlib.Omega.{arith}
+use mathlib.Core.Path.{◌≡◌, refl, sym, ap, ◌∙◌}
 use mathlib.Core.List.{List}
-use lib.ListN.{length, take, drop, length-take, length-drop}
+use native.Mathlib.Omega.{arith}
+use lib.ListN.{length, take, drop, length-drop}
 use lib.Seq.{take_all}
-use Rattle.number.specs.declared.groups.Ending.{Ending}
-use Rattle.number.specs.declared.groups.Ending.TheVariants.{Last, Cut, More}
+use Rattle.std.specs.Prelude.{Err}
+use Rattle.std.proofs.Common.{rules}
+use Rattle.number.specs.declared.Fault.{Fault}
+use Rattle.number.specs.declared.Fault.TheVariants.{Ends, NotShortest, TooLarge}
 use Rattle.number.specs.Groups.{gather, most_groups}
-use Rattle.number.specs.Groups.Gathering.{whole, cut, long}
-use Rattle.number.specs.Inside.{gathered, counted}
-use Rattle.number.proofs.FrontGroups.{fronts, are_groups, within}
+use Rattle.number.specs.Groups.Gathering.{whole}
+use Rattle.number.specs.Reading.{from, reading, read_at}
+use Rattle.number.specs.Finding.{finds}
+use Rattle.number.proofs.Laws.{at_byte}
+use Rattle.number.proofs.FrontGroups.{fronts, within}
 use Rattle.number.proofs.Findings.{gathered_is}
 use Rattle.number.proofs.number_at.Goals as goal
 
--- what gathering found, of the bytes from there on
-found : (file : List ℕ) (at : ℕ) (ending : Ending) (groups : List ℕ)
-    → gathered ending groups ≡ gather most_groups (take (length file - at) (drop at file))
-    → (e : Ending) → ending ≡ e → gather most_groups (drop at file) ≡ gathered e groups
-found file at ending groups after e q =
-    let rest = drop at file in
-    let all : take (length file - at) rest ≡ rest = take_all (length file - at) rest (omega (arith, length-drop at file)) in
-    ap (gather most_groups) (sym all) ∙ sym after ∙ ap (λ (x : Ending). gathered x groups) q
+-- the bytes from there on, to the end of the file
+all : (file : List ℕ) (at : ℕ) → take (length file - at) (drop at file) ≡ drop at file
+all file at = take_all (length file - at) (drop at file) (omega (arith, length-drop at file))
+
+-- a fault of those bytes is that of the byte
+fault_at : (file : List ℕ) (at : ℕ) (f : Fault) → finds (Err f) ≡ reading (take (length file - at) (drop at file)) → finds (Err f) ≡ read_at file at
+fault_at file at f e = kept f ∙ ap (from at) (e ∙ ap reading (all file at)) ∙ sym (at_byte file at)
+  where
+    kept : (f : Fault) → finds (Err f) ≡ from at (finds (Err f))
+    kept Ends = refl
+    kept NotShortest = refl
+    kept TooLarge = refl
 
 pub form-requires : goal.form-requires
 form-requires c =
-    let groups = c.gather.new.groups in
-    let n = c.in-Last.count in
-    let known : counted (Last n c.in-Last.group) groups = c.in-Last.ensures.counted in
-    let front = fronts most_groups _ _ (found c.args.file.now c.args.at (Last n c.in-Last.group) groups c.in-Last.ensures.groups_after _ refl) in record {
-      counted = known;
-      are_groups = are_groups front;
-      count_bound = omega (arith, known.came, within front, length-take n groups, length-drop c.args.at c.args.file.now, c.well_formed);
-    }
+    let front = fronts most_groups _ c.in_ok-gather.field-0 c.in_ok-gather.ensures in
+    omega (arith, within front, rw (all c.args.file.now c.args.at) at (within front), length-drop c.args.at c.args.file.now, c.well_formed)
 
-pub returns-in-Cut : goal.returns-in-Cut
-returns-in-Cut c = sym (gathered_is _ _ cut (found c.args.file.now c.args.at Cut c.gather.new.groups c.in-Cut.ensures.groups_after _ refl))
+pub returns-in_err-gather : goal.returns-in_err-gather
+returns-in_err-gather c =
+    let e : finds (Err c.in_err-gather.field-0.0) ≡ read_at c.args.file.now c.args.at = fault_at _ _ c.in_err-gather.field-0.0 c.in_err-gather.ensures in
+    let is : c.from_residual.result ≡ Err c.in_err-gather.field-0.0 = search rules in
+    ap finds is ∙ e
 
-pub returns-in-More : goal.returns-in-More
-returns-in-More c = sym (gathered_is _ _ long (found c.args.file.now c.args.at More c.gather.new.groups c.in-More.ensures.groups_after _ refl))
-
-pub returns-in-Last : goal.returns-in-Last
-returns-in-Last c =
-    c.form.ensures
-    ∙ sym (gathered_is _ _ (whole _) (found c.args.file.now c.args.at (Last c.in-Last.count c.in-Last.group) c.gather.new.groups c.in-Last.ensures.groups_after _ refl))
+pub returns : goal.returns
+returns c =
+    c.form.ensures ∙ sym (gathered_is _ _ (whole _) (sym (ap (gather most_groups) (all c.args.file.now c.args.at)) ∙ c.in_ok-gather.ensures))

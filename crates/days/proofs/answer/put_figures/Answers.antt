@@ -3,4 +3,4 @@ use Rattle.output.proofs.Putting.{put_then}
 use Rattle.days.proofs.answer.put_figures.Goals as goal
 
 pub returns : goal.returns
-returns c = put_then c.put_number-end.ensures c.put_line.ensures
+returns g c = put_then c.put_number.ensures c.put_line.ensures

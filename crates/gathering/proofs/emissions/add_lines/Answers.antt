@@ -1,70 +1,59 @@
 -- `gathering::emissions::add_lines` meets its contract: each turn of its loop reads one line and adds it, by the laws of the owners' totals. Assumes nothing.
-use Prim.Native.Nat.{ℕ, ◌+◌}
-use mathlib.Core.Path.{◌≡◌, sym}
-use mathlib.Core.List.{List}
-use native.Mathlib.Omega.{arith}
-use lib.ListN.{get_or}
-use Rattle.fields.specs.declared.spot.Spot.{Spot}
-use Rattle.fields.specs.Reaching.{reads_from, whole}
-use Rattle.records.specs.declared.counts.Counts.{Counts}
-use Rattle.records.specs.declared.line.Line.{Line}
-use Rattle.records.specs.Periods.{line}
-use Rattle.records.specs.Within.{CountsWithin, LineWithin, most_counts}
-use Rattle.gathering.specs.OwnerTotals.{first_over, Owner, owner_place}
-use Rattle.gathering.proofs.OwnerTotals.{place_below, line_fits, line_owner, sums_small}
-use Rattle.gathering.proofs.LinesAdded.{none_added_lem, one_added}
+use Rattle.std.proofs.Common.{◌≡◌, ◌+◌, ◌-◌, Err, rules, arith, sym, refl}
+use Rattle.gathering.proofs.OwnerTotals.{line_fits, line_owner}
+use Rattle.gathering.proofs.LinesAdded.{AddingUp, none_added, one_added}
 use Rattle.gathering.proofs.LinesEnded.{line_out, end_out, limit_out, lines_added}
+use Rattle.gathering.proofs.emissions.add_lines.Goals.{Left-loop-own, else-loop-own-test, then-loop-own-test+in_ok-line+else-own-own-end}
 use Rattle.gathering.proofs.emissions.add_lines.Goals as goal
 
--- ---- a line that was found: it keeps its limits, and its owner has a place
-module _ (file : List ℕ) (at : Spot) (counts : Counts) (one : Line) (next : Spot) (within : CountsWithin counts) (came : whole one next ≡ reads_from (line counts) file at) where
-  fits : LineWithin most_counts 1 one
-  fits = line_fits file at counts one next within (sym came)
+pub loop-own-init : goal.loop-own-init
+loop-own-init c = rw c.requires.none_added (none_added _ _ _ c.requires.byte_value)
 
-  owner : (place : ℕ) → place ≡ owner_place one.owner_kind one.owner → Owner one.owner_kind one.owner place
-  owner place is = line_owner fits is
+pub returns-in_err-line : goal.returns-in_err-line
+returns-in_err-line c =
+    let l = c.loop-own in
+    let refusal = c.in_err-line.field-0.0 in
+    let is : c.from_residual.result ≡ Err refusal = search rules in
+    rw is (line_out l.invariant (omega arith) refusal (sym c.in_err-line.ensures))
 
--- ---- the goals
-pub loop-l-init : goal.loop-l-init
-loop-l-init c = none_added_lem c.args.file.now c.args.start c.args.counts _ _ _ c.requires.no_totals c.requires.byte_value
+pub add-total-requires : goal.add-total-requires
+add-total-requires c = line_fits _ _ _ _ _ c.requires.counts_within (sym c.in_ok-line.ensures)
 
-pub returns-in-Refused : goal.returns-in-Refused
-returns-in-Refused c = line_out c.loop-l.invariant c.loop-l-test.true c.in-Refused.refusal (sym c.in-Refused.ensures)
+pub loop-own-preserved : goal.loop-own-preserved
+loop-own-preserved c =
+    let l = c.loop-own in
+    let one = c.in_ok-line in
+    let own : l.own + 1 - 1 ≡ l.own = omega arith in
+    let fits = line_fits _ _ _ _ _ c.requires.counts_within (sym one.ensures) in
+    rw own (one_added l.invariant (omega arith) one.line one.next (sym one.ensures) _ (line_owner fits refl) l.own (omega arith) _ c.add-total.ensures.with_line
+    _ c.add-total.ensures.total _ c.first_over-over.ensures)
 
-pub place_of-owner-requires : goal.place_of-owner-requires
-place_of-owner-requires c = fits _ _ _ _ _ c.requires.counts_within c.in-Whole.ensures
+-- behind the last line, or if there is none
+all_read : (c : Left-loop-own) → AddingUp c.args.file.now c.args.start c.args.counts c.loop-own-test.totals c.loop-own-test.over c.loop-own-test.at c.args.counts.lines
+all_read c =
+    let l = c.loop-own in
+    elim c.loop-own-test.branch [
+      | else-loop-own-test w ↦
+          let all : l.own - 1 ≡ c.args.counts.lines = omega (arith, l.invariant.read_so_far.within) in
+          rw (w.totals-is, w.over-is, w.at-is) (rw all at l.invariant)
+      | then-loop-own-test+in_ok-line+else-own-own-end w ↦
+          let one = w.in_ok-line in
+          let all : l.own ≡ c.args.counts.lines = omega arith in
+          let fits = line_fits _ _ _ _ _ c.requires.counts_within (sym one.ensures) in
+          rw (w.totals-is, w.over-is, w.at-is) (one_added l.invariant (omega arith) one.line one.next (sym one.ensures) _ (line_owner fits refl) c.args.counts.lines (omega arith)
+          _ w.add-total.ensures.with_line _ w.add-total.ensures.total _ (rw all at w.first_over-over.ensures))
+    ]
 
-pub add_line-requires : goal.add_line-requires
-add_line-requires c = record {
-  line_within = fits _ _ _ _ _ c.requires.counts_within c.in-Whole.ensures;
-  owner_lt_owners = place_below (owner _ _ _ _ _ c.requires.counts_within c.in-Whole.ensures _ c.place_of-owner.ensures);
-  small_columns = sums_small c.loop-l.invariant.sums;
-}
+pub returns-in_err-nothing_after : goal.returns-in_err-nothing_after
+returns-in_err-nothing_after c =
+    let refusal = c.in_err-nothing_after.field-0.0 in
+    let is : c.from_residual-in_err-nothing_after.result ≡ Err refusal = search rules in
+    rw is (end_out (all_read (goal.at.returns-in_err-nothing_after c).Left-loop-own) (omega arith) refusal c.in_err-nothing_after.ensures)
 
-pub offset_bounds-added-owner : goal.offset_bounds-added-owner
-offset_bounds-added-owner c = omega (arith, place_below (owner _ _ _ _ _ c.requires.counts_within c.in-Whole.ensures _ c.place_of-owner.ensures))
+pub returns-in-None : goal.returns-in-None
+returns-in-None c = lines_added (all_read (goal.at.returns-in-None c).Left-loop-own) (omega arith) c.in_ok-nothing_after.ensures c.in-None.is
 
-pub bounds-added-owner : goal.bounds-added-owner
-bounds-added-owner c = place_below (owner _ _ _ _ _ c.requires.counts_within c.in-Whole.ensures _ c.place_of-owner.ensures)
-
-pub loop-l-preserved : goal.loop-l-preserved
-loop-l-preserved c =
-    let l = c.loop-l in
-    let place = c.place_of-owner.result in
-    let total = get_or c.add_line.new.added place 0 in
-    let its = owner _ _ _ _ _ c.requires.counts_within c.in-Whole.ensures _ c.place_of-owner.ensures in
-    let first : c.first_over-over.result ≡ first_over l.over total (record { byte = l.at.byte; place = l.l + 1 }) = c.first_over-over.ensures in
-    rw first (one_added l.invariant c.loop-l-test.true c.in-Whole.line c.in-Whole.next (sym c.in-Whole.ensures) place its _ c.add_line.ensures)
-
-pub returns-in-Refused-answer : goal.returns-in-Refused-answer
-returns-in-Refused-answer c =
-    end_out c.loop-l.invariant c.loop-l-test.false c.nothing_after-answer.result c.nothing_after-answer.ensures c.in-Refused-answer._refusal c.in-Refused-answer.is
-
-pub returns-then-over-ne0 : goal.returns-then-over-ne0
-returns-then-over-ne0 c =
+pub returns-in-Some : goal.returns-in-Some
+returns-in-Some c =
     rw c.refusal.ensures
-    (limit_out c.loop-l.invariant c.loop-l-test.false c.nothing_after-answer.result c.nothing_after-answer.ensures c.in_default.is (omega (arith, c.if-over-ne0.true)))
-
-pub returns : goal.returns
-returns c =
-    lines_added c.loop-l.invariant c.loop-l-test.false c.nothing_after-answer.result c.nothing_after-answer.ensures c.in_default.is (omega (arith, c.if-over-ne0.false))
+    (limit_out (all_read (goal.at.returns-in-Some c).Left-loop-own) (omega arith) c.in_ok-nothing_after.ensures c.in-Some.first c.in-Some.is)

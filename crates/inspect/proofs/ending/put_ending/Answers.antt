@@ -6,7 +6,7 @@ use Rattle.inspect.proofs.PageEnd.{page_end_lem}
 use Rattle.inspect.proofs.ending.put_ending.Goals as goal
 
 pub returns : goal.returns
-returns c =
+returns g c =
     let a = c.args in
     let step = c.step_at in
     let answer = c.verdict-answer in
@@ -23,6 +23,6 @@ returns c =
     answer.ensures
     c.stop_of-stop.ensures
     c.refusal.ensures in
-    let closed = rw c.is_marked.ensures at c.put_close_at-at.ensures in
-    let line = put_then c.put_stopped_at-at.ensures closed in
-    rw text (put_then (put_then line c.put_verdict-at.ensures) c.put_stop.ensures)
+    let closed = rw c.is_marked.ensures at c.put_close_at.ensures in
+    let line = put_then c.put_stopped_at.ensures closed in
+    rw text (put_then (put_then line c.put_verdict.ensures) c.put_stop.ensures)

@@ -22,7 +22,7 @@ unfolding field_at
 returns-then-plant-counts c =
     let after-header = c.if-place.false in
     let of-plant = c.if-plant-counts.true in
-    simp (c.in-Tells.is, le-ltb, lt-ltb, add-one) refl
+    simp (c.in-Some.is, le-ltb, lt-ltb, add-one) refl
 
 pub returns-then-segment-counts : goal.returns-then-segment-counts
 unfolding field_at
@@ -30,7 +30,7 @@ returns-then-segment-counts c =
     let after-header = c.if-place.false in
     let after-plants = c.if-plant-counts.false in
     let of-segment = c.if-segment-counts.true in
-    simp (c.in-Tells.is, le-ltb, lt-ltb, add-one) refl
+    simp (c.in-Some.is, le-ltb, lt-ltb, add-one) refl
 
 pub returns-then-line-counts : goal.returns-then-line-counts
 unfolding field_at
@@ -39,7 +39,7 @@ returns-then-line-counts c =
     let after-plants = c.if-plant-counts.false in
     let after-segments = c.if-segment-counts.false in
     let of-line = c.if-line-counts.true in
-    simp (c.in-Tells.is, le-ltb, lt-ltb, add-one) refl
+    simp (c.in-Some.is, le-ltb, lt-ltb, add-one) refl
 
 pub returns : goal.returns
 unfolding field_at
@@ -48,4 +48,4 @@ returns c =
     let after-plants = c.if-plant-counts.false in
     let after-segments = c.if-segment-counts.false in
     let after-lines = c.if-line-counts.false in
-    simp (c.in-Tells.is, le-ltb) refl
+    simp (c.in-Some.is, le-ltb) refl

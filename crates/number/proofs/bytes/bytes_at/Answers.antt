@@ -1,33 +1,23 @@
--- `number::bytes::bytes_at` meets its contract: its loop counts byte by byte, by the laws of the bytes of a number. Assumes nothing.
-use Prim.Native.Nat.{◌+◌}
-use mathlib.Core.Path.{sym}
+-- `number::bytes::bytes_at` meets its contract: up to the first byte after which none follows, or all that a number may have. Assumes nothing.
+use mathlib.Core.Path.{sym, ap, ◌∙◌}
 use native.Mathlib.Omega.{arith}
-use Rattle.number.proofs.OwnBytes.{none_counted, past_own, all_counted, at_end, last_counted, one_counted}
+use mathlib.Core.List.{List}
+use Prim.Native.Nat.{ℕ}
+use lib.ListN.{length}
+use Rattle.std.specs.Prelude.{position}
+use Rattle.number.specs.Inside.{is_last}
+use Rattle.number.proofs.OwnBytes.{past_own, most_taken, up_to_last, all_of_them}
 use Rattle.number.proofs.bytes.bytes_at.Goals as goal
 
-pub returns-then-file-at : goal.returns-then-file-at
-returns-then-file-at c =
-    let a = c.args in
-    sym (past_own a.file.now a.at (omega arith))
+pub returns-in_default : goal.returns-in_default
+returns-in_default c = let past = c.in_default.ensures.lookup in sym (past_own c.args.file.now c.args.at (omega (arith, past)))
 
-pub loop-n-init : goal.loop-n-init
-loop-n-init c =
-    let a = c.args in
-    none_counted a.file.now a.at (omega arith)
+pub returns-in-Some-last_in : goal.returns-in-Some-last_in
+returns-in-Some-last_in c =
+    let most_is = most_taken c.args.file.now c.args.at _ _ c.in-Some.ensures.lookup.0.2 c.min.ensures in
+    sym (up_to_last c.args.file.now c.args.at _ (sym (ap (position is_last) most_is) ∙ sym c.in-Some-last_in.ensures))
 
-pub returns-then-left-n : goal.returns-then-left-n
-returns-then-left-n c = sym (at_end c.loop-n.invariant (omega arith))
-
-pub overflow_cast-byte : goal.overflow_cast-byte
-overflow_cast-byte c =
-    let a = c.args in
-    omega (arith, c.type_inv.file (a.at + c.loop-n.n))
-
-pub returns-then-byte-lt-RADIX : goal.returns-then-byte-lt-RADIX
-returns-then-byte-lt-RADIX c = sym (last_counted c.loop-n.invariant (omega arith) (omega arith) c.if-byte-lt-RADIX.true)
-
-pub loop-n-preserved : goal.loop-n-preserved
-loop-n-preserved c = one_counted c.loop-n.invariant (omega arith) (omega arith) c.if-byte-lt-RADIX.false
-
-pub returns : goal.returns
-returns c = sym (all_counted c.loop-n.invariant (omega arith))
+pub returns-in-None : goal.returns-in-None
+returns-in-None c =
+    let most_is = most_taken c.args.file.now c.args.at _ _ c.in-Some.ensures.lookup.0.2 c.min.ensures in
+    ap (λ (l : List ℕ). length l) most_is ∙ sym (all_of_them c.args.file.now c.args.at (sym (ap (position is_last) most_is) ∙ sym c.in-None.ensures))

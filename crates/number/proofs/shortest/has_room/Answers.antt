@@ -18,9 +18,9 @@ returns-then-bytes-at c =
 pub returns-then-left-ge-GROUPS : goal.returns-then-left-ge-GROUPS
 returns-then-left-ge-GROUPS c =
     let a = c.args in
-    sym (le-leb (a.at + length (written a.value)) a.bytes (omega (arith, five_bytes a.value)))
+    le-leb _ _ c.if-left-ge-GROUPS.true ∙ sym (le-leb (a.at + length (written a.value)) a.bytes (omega (arith, five_bytes a.value)))
 
-pub returns : goal.returns
-returns c =
+pub returns-else-left-ge-GROUPS : goal.returns-else-left-ge-GROUPS
+returns-else-left-ge-GROUPS c =
     let a = c.args in
     ap (λ (n : ℕ). leb n (a.bytes - a.at)) c.size_of.ensures ∙ fits_behind a.at (length (written a.value)) a.bytes (omega arith)

@@ -42,6 +42,6 @@ shape_of-buffer c = c.loop-n.invariant.sized
 pub returns : goal.returns
 returns c =
     let so_far = c.loop-n.invariant in record {
-      value = all_counted so_far.counted (omega arith);
+      value = omega (arith, all_counted so_far.counted (omega arith));
       buffer_after = all_out so_far (omega arith);
     }

@@ -1,61 +1,57 @@
 -- `reading::whole::verdict` meets its contract: the header decides, then the plants, the segments, the lines and the end. Assumes nothing.
-use mathlib.Core.Path.{sym, ◌∙◌}
-use native.Mathlib.Omega.{arith}
+use Rattle.std.proofs.Common.{◌≡◌, ℕ, List, Err, rules, arith, sym, ap, ◌∙◌}
+use Rattle.fields.specs.declared.answer.Refusal.{Refusal}
+use Rattle.fields.specs.Answers.{Answer, said}
+use Rattle.fields.specs.Reaching.{refused_by}
+use Rattle.records.specs.Periods.{period_file, period_verdict}
 use Rattle.records.proofs.Parts.{refusal_says, header_stopped, plants_stopped, segments_stopped, lines_stopped, end_says}
 use Rattle.reading.proofs.whole.verdict.Goals as goal
 
-pub returns-in-Refused : goal.returns-in-Refused
-returns-in-Refused c =
-    let file = c.args.file.now in
-    let r = c.in-Refused in
-    refusal_says file r.refusal (header_stopped file (omega arith) _ (sym (rw r.is at c.read_header.ensures)))
+-- an answer that passes a refusal on
+passed_on : (file : List ℕ) (answer : Answer) (refusal : Refusal) → answer ≡ Err refusal → period_file file ≡ refused_by refusal → said answer ≡ period_verdict file
+passed_on file answer refusal is e = ap said is ∙ refusal_says file refusal e
 
-pub returns-in-Refused-pass_plants : goal.returns-in-Refused-pass_plants
-returns-in-Refused-pass_plants c =
+pub returns-in_err-counts : goal.returns-in_err-counts
+returns-in_err-counts c =
     let file = c.args.file.now in
-    let h = c.in-Whole in
-    let counts-read = sym (rw h.is at c.read_header.ensures) in
-    let r = c.in-Refused-pass_plants in
-    refusal_says file r.refusal
-    (plants_stopped file (omega arith) h.counts h.first_plant counts-read
-    _ (rw r.is at c.pass_plants.ensures))
+    let none = c.in_err-counts in
+    passed_on file c.from_residual.result none.field-0.0 (search rules) (header_stopped file (omega arith) _ (sym none.ensures))
 
-pub returns-in-Refused-pass_segments : goal.returns-in-Refused-pass_segments
-returns-in-Refused-pass_segments c =
+pub returns-in_err-first_segment : goal.returns-in_err-first_segment
+returns-in_err-first_segment c =
     let file = c.args.file.now in
-    let h = c.in-Whole in
-    let counts-read = sym (rw h.is at c.read_header.ensures) in
-    let plants-read = rw c.in-Whole-pass_plants.is at c.pass_plants.ensures in
-    let r = c.in-Refused-pass_segments in
-    refusal_says file r.refusal
-    (segments_stopped file (omega arith) h.counts h.first_plant counts-read
-    plants-read.0 c.in-Whole-pass_plants.first_segment plants-read.1
-    _ (rw r.is at c.pass_segments.ensures))
+    let h = c.in_ok-counts in
+    let none = c.in_err-first_segment in
+    passed_on file c.from_residual-in_err-first_segment.result none.field-0.0 (search rules)
+    (plants_stopped file (omega arith) h.counts h.first_plant (sym h.ensures) _ none.ensures)
 
-pub returns-in-Refused-pass_lines : goal.returns-in-Refused-pass_lines
-returns-in-Refused-pass_lines c =
+pub returns-in_err-first_line : goal.returns-in_err-first_line
+returns-in_err-first_line c =
     let file = c.args.file.now in
-    let h = c.in-Whole in
-    let counts-read = sym (rw h.is at c.read_header.ensures) in
-    let plants-read = rw c.in-Whole-pass_plants.is at c.pass_plants.ensures in
-    let segments-read = rw c.in-Whole-pass_segments.is at c.pass_segments.ensures in
-    let r = c.in-Refused-pass_lines in
-    refusal_says file r.refusal
-    (lines_stopped file (omega arith) h.counts h.first_plant counts-read
-    plants-read.0 c.in-Whole-pass_plants.first_segment plants-read.1
-    segments-read.0 c.in-Whole-pass_segments.first_line segments-read.1
-    _ (rw r.is at c.pass_lines.ensures))
+    let h = c.in_ok-counts in
+    let p = c.in_ok-first_segment in
+    let none = c.in_err-first_line in
+    passed_on file c.from_residual-in_err-first_line.result none.field-0.0 (search rules)
+    (segments_stopped file (omega arith) h.counts h.first_plant (sym h.ensures) p.ensures.0 p.first_segment p.ensures.1 _ none.ensures)
 
-pub returns-in-Whole-pass_lines : goal.returns-in-Whole-pass_lines
-returns-in-Whole-pass_lines c =
+pub returns-in_err-end : goal.returns-in_err-end
+returns-in_err-end c =
     let file = c.args.file.now in
-    let h = c.in-Whole in
-    let counts-read = sym (rw h.is at c.read_header.ensures) in
-    let plants-read = rw c.in-Whole-pass_plants.is at c.pass_plants.ensures in
-    let segments-read = rw c.in-Whole-pass_segments.is at c.pass_segments.ensures in
-    let lines-read = rw c.in-Whole-pass_lines.is at c.pass_lines.ensures in
+    let h = c.in_ok-counts in
+    let p = c.in_ok-first_segment in
+    let s = c.in_ok-first_line in
+    let none = c.in_err-end in
+    passed_on file c.from_residual-in_err-end.result none.field-0.0 (search rules)
+    (lines_stopped file (omega arith) h.counts h.first_plant (sym h.ensures) p.ensures.0 p.first_segment p.ensures.1
+    s.ensures.0 s.first_line s.ensures.1 _ none.ensures)
+
+pub returns : goal.returns
+returns c =
+    let file = c.args.file.now in
+    let h = c.in_ok-counts in
+    let p = c.in_ok-first_segment in
+    let s = c.in_ok-first_line in
+    let l = c.in_ok-end in
     c.nothing_after.ensures
-    ∙ end_says file (omega arith) h.counts h.first_plant counts-read
-    plants-read.0 c.in-Whole-pass_plants.first_segment plants-read.1
-    segments-read.0 c.in-Whole-pass_segments.first_line segments-read.1
-    lines-read.0 c.in-Whole-pass_lines.end lines-read.1
+    ∙ end_says file (omega arith) h.counts h.first_plant (sym h.ensures) p.ensures.0 p.first_segment p.ensures.1
+    s.ensures.0 s.first_line s.ensures.1 l.ensures.0 l.end l.ensures.1

@@ -1,34 +1,23 @@
 -- `typed::reading::list_numbers` meets its contract: its loop lists the number that each byte ends, and the text's end may end one. Assumes nothing.
-use mathlib.Core.Path.{ap, ◌∙◌}
-use native.Mathlib.Omega.{arith}
-use lib.ListN.{length}
-use Rattle.typed.specs.Text.{numbers_in}
-use Rattle.typed.proofs.Listing.{listed_length}
-use Rattle.typed.proofs.NumberByNumber.{none_listed, byte_listed, end_listed}
+use Rattle.std.proofs.Common.{arith}
+use Rattle.typed.proofs.NumberByNumber.{ended_within, ending_within, none_listed, byte_listed, end_listed}
 use Rattle.typed.proofs.reading.list_numbers.Goals as goal
 
-pub loop-i-init : goal.loop-i-init
-loop-i-init c = none_listed _ _
+pub loop-byte-init : goal.loop-byte-init
+loop-byte-init c = none_listed _ _
 
-pub list_ended-count-requires : goal.list_ended-count-requires
-list_ended-count-requires c = omega (arith, c.loop-i.invariant.few)
+pub list_number-count-requires : goal.list_number-count-requires
+list_number-count-requires c = omega (arith, ended_within c.loop-byte.invariant _ c.ended_by.ensures)
 
-pub loop-i-preserved : goal.loop-i-preserved
-loop-i-preserved c =
-    let turn = c in
-    let ended = c.list_ended-count in
-    rw c.behind-scan.ensures (byte_listed turn.loop-i.invariant turn.loop-i-test.true _ _ ended.ensures.value ended.ensures.list_after)
+pub loop-byte-preserved : goal.loop-byte-preserved
+loop-byte-preserved c =
+    let listed = c.list_number-count.ensures in
+    rw c.behind-scan.ensures (byte_listed c.loop-byte.invariant c.loop-byte-test.true _ _ _ c.ended_by.ensures listed.value listed.list_after)
 
-pub list_ending-requires : goal.list_ending-requires
-list_ending-requires c = omega (arith, c.loop-i.invariant.few)
+pub list_number-requires : goal.list_number-requires
+list_number-requires c = omega (arith, ending_within c.loop-byte.invariant _ c.ending.ensures)
 
 pub returns : goal.returns
 returns c =
-    let left = c in
-    let ending = c.list_ending in
-    end_listed left.loop-i.invariant left.loop-i-test.false _ _ ending.ensures.value ending.ensures.list_after
-
-pub shape_of-list : goal.shape_of-list
-shape_of-list c =
-    let a = c.args in
-    ap length (returns c).written ∙ listed_length (numbers_in a.text.now) a.list.now
+    let listed = c.list_number.ensures in
+    end_listed c.loop-byte.invariant c.loop-byte-test.false _ _ _ c.ending.ensures listed.value listed.list_after

@@ -1,11 +1,26 @@
--- `write::answer::print_answer` meets its contract: what it prints is what was put. Assumes nothing.
-use mathlib.Core.Path.{sym}
-use native.Mathlib.Omega.{arith}
-use lib.Seq.{length-take-le}
+-- `write::answer::print_answer` meets its contract: what it prints is what was put, and there is room for it. Assumes nothing.
+use Rattle.std.proofs.Common.{arith, sym, length-take-le}
+use Rattle.records.specs.Periods.{period}
+use Rattle.typing.proofs.TextHeld.{answer_held}
+use Rattle.write.specs.Printed.{printed_write}
+use Rattle.write.proofs.FileFits.{period_fits}
 use Rattle.write.proofs.answer.print_answer.Goals as goal
 
-pub slice_bounds-put_answer-end : goal.slice_bounds-put_answer-end
-slice_bounds-put_answer-end c = sym (length-take-le _ _ (omega arith))
+pub slice_bounds-print-end : goal.slice_bounds-print-end
+slice_bounds-print-end c =
+    let text = c.args.text.now in
+    let held = answer_held period text c.args.answer.now.room (period_fits text _ (omega arith)) (omega arith) _ _ (rw c.requires at c.put_answer.ensures) in
+    omega (arith, held.within)
+
+pub slice_bounds-print-end-2 : goal.slice_bounds-print-end-2
+slice_bounds-print-end-2 c =
+    let text = c.args.text.now in
+    let held = answer_held period text c.args.answer.now.room (period_fits text _ (omega arith)) (omega arith) _ _ (rw c.requires at c.put_answer.ensures) in
+    sym (length-take-le _ _ held.within)
 
 pub returns : goal.returns
-returns c = rw (sym c.put_answer-end.ensures.stands) c.print.ensures
+unfolding printed_write
+returns c =
+    let text = c.args.text.now in
+    let held = answer_held period text c.args.answer.now.room (period_fits text _ (omega arith)) (omega arith) _ _ (rw c.requires at c.put_answer.ensures) in
+    rw (sym held.stands) c.print.ensures

@@ -17,7 +17,7 @@ returns-then-index-room c =
       says =
           ap (λ (r : Refusal). refusing r) c.refusal.ensures
           ∙ left_there ns s.args.at s.requires (omega (arith, listed_length s.args.numbers.now));
-      ends = tt;
+      counted = tt;
     }
 
 pub returns : goal.returns
@@ -25,4 +25,4 @@ returns c =
     let s = c in
     let ns = table_numbers s.args.numbers.now in
     let all : length ns ≤ s.args.at.place = omega (arith, listed_length s.args.numbers.now) in
-    record { says = ended_there ns s.args.at s.requires all; ends = end_byte ns s.args.at s.requires all }
+    record { says = ended_there ns s.args.at s.requires all; counted = end_byte ns s.args.at s.requires all }

@@ -38,8 +38,8 @@ returns-then-value-gt-LARGEST c =
       next_at = tt;
     }
 
-pub overflow_add-byte : goal.overflow_add-byte
-overflow_add-byte c =
+pub overflow_add-next : goal.overflow_add-next
+overflow_add-next c =
     let s = c in
     let table = s.args.numbers.now in
     let size : c.size_of.result ≤ most_groups = rw c.size_of.ensures (five_bytes c.plain_at-value.result) in

@@ -1,96 +1,90 @@
 -- `writing::period::test_period` meets its contract: the header decides, then the plants, the segments, the lines and the end of the list. Assumes nothing.
-use mathlib.Core.Path.{◌∙◌}
-use native.Mathlib.Omega.{arith}
+use Rattle.std.proofs.Common.{◌≡◌, Err, ◌∙◌, rules, arith}
 use Rattle.fields.specs.Written.{file_of}
 use Rattle.plain.specs.Bytes.{table_numbers}
 use Rattle.records.proofs.Parts.{refusal_says, header_stopped, plants_stopped, segments_stopped, lines_stopped, end_says}
-use Rattle.writing.proofs.ListSpots.{listed_long}
+use Rattle.writing.proofs.ListSpots.{listed_long, first_at}
 use Rattle.writing.proofs.period.test_period.Goals as goal
 
-pub test_records-requires : goal.test_records-requires
-test_records-requires c =
-    (rw c.in-Whole.is at c.test_header.ensures).0
+pub test_record-requires : goal.test_record-requires
+test_record-requires c = rw c.first.ensures (first_at (table_numbers c.args.numbers.now))
 
-pub test_records-requires-in-Whole-test_records : goal.test_records-requires-in-Whole-test_records
-test_records-requires-in-Whole-test_records c =
-    (rw c.in-Whole-test_records.is at c.test_records.ensures).0
-
-pub test_records-requires-in-Whole-test_records-2 : goal.test_records-requires-in-Whole-test_records-2
-test_records-requires-in-Whole-test_records-2 c =
-    (rw c.in-Whole-test_records-2.is at c.test_records-in-Whole-test_records.ensures).0
-
-pub nothing_left-requires : goal.nothing_left-requires
-nothing_left-requires c =
-    (rw c.in-Whole-test_records-3.is at c.test_records-in-Whole-test_records-2.ensures).0
-
-pub returns-in-Refused : goal.returns-in-Refused
-returns-in-Refused c =
+pub returns-in_err-counts : goal.returns-in_err-counts
+returns-in_err-counts c =
     let table = c.args.numbers.now in
     let file = file_of (table_numbers table) in
-    record {
+    let refusal = c.in_err-counts.field-0.0 in
+    let is : c.from_residual.result ≡ Err refusal = search rules in
+    let came = rw c.first.ensures at c.in_err-counts.ensures in
+    rw is (record { says = refusal_says file refusal (header_stopped file (listed_long table (omega arith)) _ came); counted = tt })
+
+pub returns-in_err-first_segment : goal.returns-in_err-first_segment
+returns-in_err-first_segment c =
+    let table = c.args.numbers.now in
+    let file = file_of (table_numbers table) in
+    let refusal = c.in_err-first_segment.field-0.0 in
+    let is : c.from_residual-in_err-first_segment.result ≡ Err refusal = search rules in
+    let header_read = (rw c.first.ensures at c.in_ok-counts.ensures).1 in
+    rw is
+    (record {
       says =
-          refusal_says file c.in-Refused.refusal
-          (header_stopped file (listed_long table (omega arith))
-          _ (rw c.in-Refused.is at c.test_header.ensures));
-      ends = tt;
-    }
+          refusal_says file refusal
+          (plants_stopped file (listed_long table (omega arith)) c.in_ok-counts.counts c.in_ok-counts.first_plant header_read _ c.in_err-first_segment.ensures);
+      counted = tt;
+    })
 
-pub returns-in-Refused-test_records : goal.returns-in-Refused-test_records
-returns-in-Refused-test_records c =
+pub returns-in_err-first_line : goal.returns-in_err-first_line
+returns-in_err-first_line c =
     let table = c.args.numbers.now in
     let file = file_of (table_numbers table) in
-    let header_read = rw c.in-Whole.is at c.test_header.ensures in
-    record {
+    let refusal = c.in_err-first_line.field-0.0 in
+    let is : c.from_residual-in_err-first_line.result ≡ Err refusal = search rules in
+    let header_read = (rw c.first.ensures at c.in_ok-counts.ensures).1 in
+    let plants_read = c.in_ok-first_segment.ensures.1 in
+    rw is
+    (record {
       says =
-          refusal_says file c.in-Refused-test_records.refusal
-          (plants_stopped file (listed_long table (omega arith)) c.in-Whole.counts c.in-Whole.first_plant header_read.1
-          _ (rw c.in-Refused-test_records.is at c.test_records.ensures));
-      ends = tt;
-    }
+          refusal_says file refusal
+          (segments_stopped file (listed_long table (omega arith)) c.in_ok-counts.counts c.in_ok-counts.first_plant header_read
+          plants_read.0 c.in_ok-first_segment.first_segment plants_read.1
+          _ c.in_err-first_line.ensures);
+      counted = tt;
+    })
 
-pub returns-in-Refused-test_records-2 : goal.returns-in-Refused-test_records-2
-returns-in-Refused-test_records-2 c =
+pub returns-in_err-end : goal.returns-in_err-end
+returns-in_err-end c =
     let table = c.args.numbers.now in
     let file = file_of (table_numbers table) in
-    let header_read = rw c.in-Whole.is at c.test_header.ensures in
-    let plants-read = rw c.in-Whole-test_records.is at c.test_records.ensures in
-    record {
+    let refusal = c.in_err-end.field-0.0 in
+    let is : c.from_residual-in_err-end.result ≡ Err refusal = search rules in
+    let header_read = (rw c.first.ensures at c.in_ok-counts.ensures).1 in
+    let plants_read = c.in_ok-first_segment.ensures.1 in
+    let segments_read = c.in_ok-first_line.ensures.1 in
+    rw is
+    (record {
       says =
-          refusal_says file c.in-Refused-test_records-2.refusal
-          (segments_stopped file (listed_long table (omega arith)) c.in-Whole.counts c.in-Whole.first_plant header_read.1 plants-read.1.0 c.in-Whole-test_records.first_segment plants-read.1.1
-          _ (rw c.in-Refused-test_records-2.is at c.test_records-in-Whole-test_records.ensures));
-      ends = tt;
-    }
+          refusal_says file refusal
+          (lines_stopped file (listed_long table (omega arith)) c.in_ok-counts.counts c.in_ok-counts.first_plant header_read
+          plants_read.0 c.in_ok-first_segment.first_segment plants_read.1
+          segments_read.0 c.in_ok-first_line.first_line segments_read.1
+          _ c.in_err-end.ensures);
+      counted = tt;
+    })
 
-pub returns-in-Refused-test_records-3 : goal.returns-in-Refused-test_records-3
-returns-in-Refused-test_records-3 c =
+pub returns : goal.returns
+returns c =
     let table = c.args.numbers.now in
     let file = file_of (table_numbers table) in
-    let header_read = rw c.in-Whole.is at c.test_header.ensures in
-    let plants-read = rw c.in-Whole-test_records.is at c.test_records.ensures in
-    let segments-read = rw c.in-Whole-test_records-2.is at c.test_records-in-Whole-test_records.ensures in
-    record {
-      says =
-          refusal_says file c.in-Refused-test_records-3.refusal
-          (lines_stopped file (listed_long table (omega arith)) c.in-Whole.counts c.in-Whole.first_plant header_read.1 plants-read.1.0 c.in-Whole-test_records.first_segment plants-read.1.1 segments-read.1.0 c.in-Whole-test_records-2.first_line segments-read.1.1
-          _ (rw c.in-Refused-test_records-3.is at c.test_records-in-Whole-test_records-2.ensures));
-      ends = tt;
-    }
-
-pub returns-in-Whole-test_records-3 : goal.returns-in-Whole-test_records-3
-returns-in-Whole-test_records-3 c =
-    let table = c.args.numbers.now in
-    let file = file_of (table_numbers table) in
-    let header_read = rw c.in-Whole.is at c.test_header.ensures in
-    let plants-read = rw c.in-Whole-test_records.is at c.test_records.ensures in
-    let segments-read = rw c.in-Whole-test_records-2.is at c.test_records-in-Whole-test_records.ensures in
-    let lines-read = rw c.in-Whole-test_records-3.is at c.test_records-in-Whole-test_records-2.ensures in
+    let header_read = (rw c.first.ensures at c.in_ok-counts.ensures).1 in
+    let plants_read = c.in_ok-first_segment.ensures.1 in
+    let segments_read = c.in_ok-first_line.ensures.1 in
+    let lines_read = c.in_ok-end.ensures.1 in
     record {
       says =
           c.nothing_left.ensures.says
-          ∙ end_says file (listed_long table (omega (arith, c.well_formed))) c.in-Whole.counts c.in-Whole.first_plant header_read.1
-          plants-read.1.0 c.in-Whole-test_records.first_segment plants-read.1.1
-          segments-read.1.0 c.in-Whole-test_records-2.first_line segments-read.1.1
-          lines-read.1.0 c.in-Whole-test_records-3.end lines-read.1.1;
-      ends = c.nothing_left.ensures.ends;
+          ∙ end_says file (listed_long table (omega (arith, c.well_formed))) c.in_ok-counts.counts c.in_ok-counts.first_plant header_read
+          plants_read.0 c.in_ok-first_segment.first_segment plants_read.1
+          segments_read.0 c.in_ok-first_line.first_line segments_read.1
+          lines_read.0 c.in_ok-end.end lines_read.1;
+      counted = c.nothing_left.ensures.counted;
     }

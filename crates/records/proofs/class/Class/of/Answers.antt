@@ -1,50 +1,30 @@
--- `records::class::Class::of` meets its contract: its table is that of the definitions, and no row before has the code; so it is the next row's, or a later
--- one's, or no row's. Assumes nothing.
-use Prim.Native.Nat.{ℕ, ◌-◌, ◌≤◌, ◌<◌}
-use mathlib.Core.Logic.{◌⊎◌, inl, inr}
-use mathlib.Core.Path.{◌≡◌, refl, sym, ◌∙◌}
-use native.Mathlib.Decide.{dec_le}
-use native.Mathlib.Omega.{arith}
-use lib.ListN.{length}
-use Rattle.records.specs.Classes.{classes}
-use Rattle.records.proofs.Classes.{code_at, row_of_lem, no_row}
+-- `records::class::Class::of` meets its contract: no row before has the code, so the class is the first of those from here on that has it. Assumes nothing.
+use Rattle.std.proofs.Common.{◌≡◌, ℕ, ◌+◌, ◌<◌, List, length, get_or, drop, arith, refl, sym, ◌∙◌, add-one, drop-cons, eq-eqb, ne_eqb}
+use Rattle.records.specs.declared.class.Class.{Class}
+use Rattle.records.specs.Classes.{classes, class_of, no_class, row_of}
 use Rattle.records.proofs.class.Class.of.Goals as goal
 
--- a code behind all rows, if it is one at all, is none of the table
-outside : (code row : ℕ) → length classes ≤ row → (1 ≤ code → row < code) → (code < 1) ⊎ (length classes < code)
-outside code row end behind = by_code (dec_le 1 code)
-  where
-    by_code : Dec (1 ≤ code) → (code < 1) ⊎ (length classes < code)
-    by_code (yes some) = inr (omega (arith, end, behind some))
-    by_code (no none) = inl (omega (arith, none))
+module _ (table : List Class) (i code : ℕ) (inside : i < length table) where
+  -- the next row has the code
+  found : (get_or table i no_class).code ≡ code → row_of (drop i table) code ≡ get_or table i no_class
+  found its = rw (drop-cons table i no_class inside, eq-eqb (get_or table i no_class).code code its) refl
 
-pub loop-row-init : goal.loop-row-init
-unfolding classes
-loop-row-init c = (refl, (omega arith, λ some. some))
+  -- or a later one
+  passed : ((get_or table i no_class).code ≡ code → ⊥) → row_of (drop i table) code ≡ row_of (drop (i + 1) table) code
+  passed other = rw (add-one, drop-cons table i no_class inside, ne_eqb (get_or table i no_class).code code other) refl
 
-pub overflow_cast-class : goal.overflow_cast-class
-unfolding classes
-overflow_cast-class c =
-    let row = c.loop-row.row in
-    let its = code_at row (omega arith) in
-    omega (arith, its)
+pub loop-class-init : goal.loop-class-init
+unfolding classes class_of
+loop-class-init c = refl
 
 pub returns-then-class-code : goal.returns-then-class-code
 unfolding classes
 returns-then-class-code c =
-    let row = c.loop-row.row in
-    let code = c.args.code in
-    let its = code_at row (omega arith) in
-    let here : code - 1 ≡ row = omega (arith, its, c.if-class-code.true) in
-    rw here at (row_of_lem code (omega (arith, its, c.if-class-code.true)) (omega (arith, its, c.if-class-code.true)))
+    let l = c.loop-class in
+    sym (found classes l.class-index c.args.code (omega arith) c.if-class-code.true) ∙ l.invariant
 
-pub loop-row-preserved : goal.loop-row-preserved
+pub loop-class-preserved : goal.loop-class-preserved
 unfolding classes
-loop-row-preserved c =
-    let l = c.loop-row in
-    let its = code_at l.row (omega arith) in
-    (l.invariant.0, (omega arith, λ some. let behind = l.invariant.1.1 some in omega (arith, its, behind, c.if-class-code.false)))
-
-pub returns : goal.returns
-unfolding classes
-returns c = c.none.ensures ∙ sym (no_row _ (outside _ _ c.loop-row-test.false c.loop-row.invariant.1.1))
+loop-class-preserved c =
+    let l = c.loop-class in
+    sym (passed classes l.class-index c.args.code (omega arith) c.if-class-code.false) ∙ l.invariant

@@ -1,0 +1,13 @@
+-- `output::text::Text::put_words` meets its contract: each turn puts one byte more. Assumes nothing.
+use Rattle.output.proofs.Putting.{byte_more, bytes_all, put_then}
+use Rattle.output.proofs.text.Text.put_words.Goals as goal
+
+pub loop-byte-preserved : goal.loop-byte-preserved
+loop-byte-preserved g c =
+    let l = c.loop-byte in
+    byte_more c.args.words.now l.byte-index c.loop-byte-test.true l.invariant c.put_byte.ensures
+
+pub returns : goal.returns
+returns g c =
+    let l = c.loop-byte in
+    put_then c.start.ensures (bytes_all c.args.words.now l.byte-index c.loop-byte-test.false l.invariant)
