@@ -214,7 +214,7 @@ uint32_t steeplecuff_days(const uint8_t *sheet, size_t sheet_len, uint64_t *sum,
  *
  * Like the other calls, this one keeps nothing from one call to the next and has no global state: threads may make all
  * three at the same time, each with a buffer, a count and a place of its own, also on the same list. It allocates nothing,
- * calls nothing back and returns for every input. It uses some 270 bytes of stack (docs/PERFORMANCE.md).
+ * calls nothing back and returns for every input. It uses some 280 bytes of stack (docs/PERFORMANCE.md).
  */
 uint32_t steeplecuff_write(const uint8_t *numbers, size_t numbers_len, uint8_t *buffer, size_t buffer_len,
                            uint64_t *written, uint64_t *place);

@@ -9,10 +9,11 @@ use Rattle.fields.specs.declared.spot.Spot.{Spot}
 use Rattle.fields.specs.Reasons.{number_of}
 use Rattle.fields.specs.Answers.{notice, notice_of}
 use Rattle.fields.specs.Readers.{Reader, return, needs, onward, allows_next}
-use Rattle.fields.specs.Spots.{refusal_at, Take}
+use Rattle.fields.specs.Spots.{refusal_at, Take, taking_at}
 use Rattle.fields.specs.Spots.Take.{value as one_value, refusal as no_value}
 use Rattle.fields.specs.Wanting.{Wants, Allowed}
-use Rattle.fields.specs.Reaching.{whole, stopped, reads_by, stopped_by}
+use Rattle.fields.specs.Reaching.{whole, stopped, reads_by, reads_from, stopped_by}
+use Rattle.fields.proofs.Takes.{ValueThere, value_taken, within_limit, FaultThere, fault_taken}
 use Rattle.fields.proofs.Reaching.{by_passed, by_wrong, by_fault}
 
 module _ {A : Type 0} where
@@ -140,3 +141,22 @@ module _ {A : Type 0} where
     one_wrong reason wants more v next there wrong =
         next_wrong (replicate wanted reason) wants (length-replicate wanted reason) more v next there wrong
         ∙ ap (λ (r : Reason). stopped (notice (number_of r) at.place at.byte)) (get_or-replicate wanted f reason Ends more)
+
+-- ---- the next number of a file, by what number reading finds there
+module _
+    {A : Type 0} {reader : Reader A} {file : List ℕ} {start : Spot} {wanted : ℕ} {values : List ℕ} {at : Spot} {f : ℕ}
+    (so_far : Numbers reader (taking_at file) start wanted values at f)
+    (reasons : List Reason) (wants : Wants reasons reader) (counted : length reasons ≡ wanted) (more : f < wanted) where
+  -- it has a fault
+  pub file_faulty : (refusal : Refusal) → FaultThere file at refusal → reads_from reader file start ≡ stopped_by refusal
+  file_faulty refusal there = next_faulty so_far reasons wants counted more refusal (fault_taken there)
+
+  module _ (v : ℕ) (next : Spot) (there : ValueThere file at v next) where
+    -- its field does not allow it
+    pub file_wrong :
+        allows_next (onward reader (take f values)) v ≡ false → reads_from reader file start ≡ stopped (notice (number_of (get_or reasons f Ends)) at.place at.byte)
+    file_wrong = next_wrong so_far reasons wants counted more v next (value_taken there)
+
+    -- it is allowed: one number more is taken
+    pub file_taken : allows_next (onward reader (take f values)) v ≡ true → Numbers reader (taking_at file) start wanted (set values f v) next (f + 1)
+    file_taken = next_taken so_far reasons wants counted more v next (value_taken there) (within_limit file at v next (value_taken there))

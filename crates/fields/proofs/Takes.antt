@@ -63,6 +63,9 @@ pub record FaultThere (file : List ℕ) (at : Spot) (refusal : Refusal) : Type 0
   pub stands : read_at file at.byte ≡ fault (number_of refusal.reason)
   pub told : notice_of refusal ≡ notice (number_of refusal.reason) at.place (offset_at file at.byte)
 
+pub fault_taken : {file : List ℕ} {at : Spot} {refusal : Refusal} → FaultThere file at refusal → taking_at file at ≡ no_value (notice_of refusal)
+fault_taken {file = file} {at = at} there = ap (taking at (offset_at file at.byte)) there.stands ∙ ap no_value (sym there.told)
+
 pub fault_there : (file : List ℕ) (at : Spot) (taken : Taken) (refusal : Refusal) → took taken ≡ taking_at file at → taken ≡ Err refusal → FaultThere file at refusal
 fault_there file at taken refusal e is = by_number (read_at file at.byte) refl (sym (ap took is) ∙ e)
   where

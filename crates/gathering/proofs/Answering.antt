@@ -70,7 +70,7 @@ module _ (file : List ℕ) where
 
       -- its plants are read
       module _ {plants : List Plant} {second : Spot} (plants_read : whole plants second ≡ plants_found) where
-        plants_kept : Kept no_plant most_plants (reads_from (plants_of counts) file first) plants second
+        pub plants_kept : Kept no_plant most_plants (reads_from (plants_of counts) file first) plants second
         plants_kept = all_kept no_plant most_plants (λ (own : ℕ). plant counts) counts.plants file first within.most_plants_is plants second plants_read
 
         -- and below the same of its segments
@@ -84,7 +84,7 @@ module _ (file : List ℕ) where
             (one_stopped no_segment most_segments (segment counts) counts.segments file second within.most_segments_is _ e))
 
         module _ {segments : List Segment} {third : Spot} (segments_read : whole segments third ≡ segments_found) where
-          segments_kept : Kept no_segment most_segments (reads_from (segments_of counts) file second) segments third
+          pub segments_kept : Kept no_segment most_segments (reads_from (segments_of counts) file second) segments third
           segments_kept = all_kept no_segment most_segments (segment counts) counts.segments file second within.most_segments_is segments third segments_read
 
           -- the first line starts behind all that comes before

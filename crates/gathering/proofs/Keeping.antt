@@ -1,10 +1,16 @@
 -- Records in an array: they were read, and stand in front of what fills the rest; or one is refused.
-use Rattle.std.proofs.Common.{◌≡◌, ℕ, ◌≤◌, min, List, refl, sym, true≢false, arith}
+use Rattle.std.proofs.Common.{◌≡◌, ℕ, ◌-◌, ◌≤◌, min, List, [], replicate, refl, sym, ap, ◌∙◌, true≢false, arith}
 use Rattle.fields.specs.declared.spot.Spot.{Spot}
 use Rattle.fields.specs.Answers.{Notice}
 use Rattle.fields.specs.Lists.{filled}
+use Rattle.fields.specs.Spots.{taking_at}
 use Rattle.fields.specs.Readers.{Reader, each}
 use Rattle.fields.specs.Reaching.{Reach, whole, stopped, reads_from}
+use Rattle.fields.proofs.Stages.{Passed, none_passed}
+use Rattle.records.specs.declared.counts.Counts.{Counts}
+use Rattle.records.specs.declared.plant.Plant.{Plant}
+use Rattle.records.specs.Plants.{most_plants, no_plant}
+use Rattle.records.specs.Periods.{plant}
 use Rattle.reading.specs.Found.{in_array}
 
 module _ {A : Type 0} (none : A) (room : ℕ) where
@@ -35,3 +41,20 @@ module _ {A : Type 0} (none : A) (room : ℕ) where
 
     pub one_stopped : (notice : Notice) → stopped notice ≡ found → reads_from (each one 1 count) file start ≡ stopped notice
     one_stopped notice e = stopped_of _ notice (rw all_fit at e)
+
+-- ---- plants on the way: so many are read, and stand in an array in front of entries without a plant
+pub record KeepingPlants (file : List ℕ) (start : Spot) (counts : Counts) (plants : List Plant) (at : Spot) (p : ℕ) : Type 0 where
+  pub done : List Plant
+  pub passed : Passed (λ (own : ℕ). plant counts) (taking_at file) start counts.plants done at p
+  pub kept : plants ≡ filled no_plant most_plants done
+
+-- none is read yet
+pub no_plant_kept :
+    (file : List ℕ) (start : Spot) (counts : Counts) (plants : List Plant) → plants ≡ replicate most_plants no_plant →
+    KeepingPlants file start counts plants start 0
+unfolding filled
+no_plant_kept file start counts plants none = record {
+  done = [];
+  passed = none_passed (λ (own : ℕ). plant counts) (taking_at file) start counts.plants;
+  kept = let all : most_plants ≡ most_plants - 0 = omega arith in none ∙ ap (λ (n : ℕ). replicate n no_plant) all;
+}

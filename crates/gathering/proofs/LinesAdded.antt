@@ -80,6 +80,10 @@ module _ (file : List ℕ) (start : Spot) (counts : Counts) where
     tested = λ later. refl;
   }
 
+  -- nor in totals that are those of no line, with which the loop begins
+  pub none_added_lem : (totals : Totals) → totals ≡ no_totals → start.byte ≡ starts 0 → AddingUp totals None start 0
+  none_added_lem totals none here = rw none (none_added here)
+
 module _
     {file : List ℕ} {start : Spot} {counts : Counts} {before : Totals} {over : Option Spot} {at : Spot} {l : ℕ}
     (so_far : AddingUp file start counts before over at l)

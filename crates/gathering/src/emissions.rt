@@ -7,8 +7,8 @@ ghost use Rattle.gathering.specs.Inside.{AddedUp, LinesAdded};
 
 use crate::totals::Totals;
 use fields::{Answer, Reason, Refusal, Spot, nothing_after};
-use reading::read_record;
-use records::{Among, Counts, Line, Plant, Segment};
+use reading::read_line;
+use records::{Counts, Line, Plant, Segment};
 
 // What the owners emit (rules 4.3 and 4.4).
 #[derive(Clone, Copy)]
@@ -55,7 +55,7 @@ fn add_lines(file: &[u8], start: Spot, counts: Counts, totals: &mut Totals) -> A
     let mut over = None;
     let mut at = start;
     for own in 1..=counts.lines {
-        let (line, next) = read_record::<Line>(file, at, Among { own, counts })?;
+        let (line, next) = read_line(file, at, counts)?;
         let total = totals.add(line);
         let here = Spot {
             byte: at.byte,

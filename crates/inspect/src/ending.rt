@@ -10,7 +10,7 @@ ghost use Rattle.inspect.specs.Page.{closed_at, faulty_line, stop_of, stopped_at
 use crate::mark::{is_marked, put_close};
 use fields::{Answer, Spot};
 use inspector::{Field, step_at};
-use names::put_field;
+use names::on_text::put_field;
 use number::{Fault, Number, bytes_at};
 use output::{Text, print};
 use reading::verdict;

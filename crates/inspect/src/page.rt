@@ -7,7 +7,7 @@ use crate::mark::{is_marked, put_close};
 use crate::room::{MOST_TEXT, ROOM};
 use fields::Spot;
 use inspector::{Field, field_at, step_at};
-use names::put_field;
+use names::on_text::put_field;
 use output::{Text, print};
 use reading::{header_of, verdict};
 

@@ -1,4 +1,4 @@
-// Puts the words for a field into a text (rule 11.5).
+// Puts the words for a field into a text or a lent buffer (rule 11.5).
 #![tactic(auto)]
 
 ghost use Rattle.std.specs.Prelude.{◌++◌, ◌≡◌};
@@ -6,32 +6,34 @@ ghost use Rattle.output.specs.Lines.{spaced};
 ghost use Rattle.output.specs.Put.{Put};
 ghost use Rattle.names.specs.FieldWords.{field_text, field_words};
 
+pub mod on_text;
+
 use inspector::Field;
-use output::Text;
+use output::{put_spaced, put_words};
 
 // The most bytes of a field's words, without its record's number.
 pub const MOST_FIELD_WORDS: usize = 24;
 
-// Puts which field of which record it is (rule 11.5).
-pub fn put_field<const N: usize>(text: &mut Text<N>, field: Field)
-    ensures { Put (field_text field) text.old.end text.old.room text.new.end text.new.room }
+// Puts which field of which record it is into a lent buffer at a byte, and answers the byte behind it (rule 11.5).
+pub fn put_field(buffer: &mut [u8], at: usize, field: Field) -> usize
+    ensures { Put (field_text field) at buffer.old result buffer.new }
 {
     let words = words(&field);
     match field {
-        Field::Plant { number, .. } => put_record(text, b" plant", number, words),
-        Field::Segment { number, .. } => put_record(text, b" segment", number, words),
-        Field::Line { number, .. } => put_record(text, b" line", number, words),
-        Field::Header { .. } | Field::After | Field::Untold => text.put_words(words),
+        Field::Plant { number, .. } => put_record(buffer, at, b" plant", number, words),
+        Field::Segment { number, .. } => put_record(buffer, at, b" segment", number, words),
+        Field::Line { number, .. } => put_record(buffer, at, b" line", number, words),
+        Field::Header { .. } | Field::After | Field::Untold => put_words(buffer, at, words),
     }
 }
 
 // Puts the words for a field of a record behind the record's name and number.
-fn put_record<const N: usize>(text: &mut Text<N>, name: &[u8], number: u64, words: &[u8])
-    ensures { Put (name.now ++ spaced number ++ words.now) text.old.end text.old.room text.new.end text.new.room }
+fn put_record(buffer: &mut [u8], at: usize, name: &[u8], number: u64, words: &[u8]) -> usize
+    ensures { Put (name.now ++ spaced number ++ words.now) at buffer.old result buffer.new }
 {
-    text.put_words(name);
-    text.put_spaced(number);
-    text.put_words(words);
+    let at = put_words(buffer, at, name);
+    let at = put_spaced(buffer, at, number);
+    put_words(buffer, at, words)
 }
 
 // The words for a field, without its record's name and number; the last of a record's are for all fields that are left.

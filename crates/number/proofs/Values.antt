@@ -1,19 +1,22 @@
 -- Laws of the value of groups.
-use Prim.Native.Nat.{ℕ, suc, ◌+◌, ◌*◌, ◌^◌, ◌≤◌, ◌<◌}
+use Prim.Native.Nat.{ℕ, zero, suc, ◌+◌, ◌-◌, ◌*◌, ◌^◌, ◌≤◌, ◌<◌}
 use mathlib.Core.Path.{◌≡◌, refl, sym, ap, ◌∙◌}
-use mathlib.Core.List.{List, []}
+use mathlib.Core.List.{List, [], ◌∷◌, ◌++◌}
+use mathlib.Core.Bool.{false}
 use native.Mathlib.Nat.{lt_of_lt_of_le, mul-suc, add-mul, mul_assoc, mul_right_comm}
 use native.Mathlib.Numerals.{add-one}
 use native.Mathlib.Omega.{arith}
-use lib.ListN.{length, get_or, take, drop, drop_of_length-le}
+use lib.ListN.{length, get_or, take, drop, replicate, drop_of_length-le, take-append-drop}
 use lib.Seq.{drop-cons}
 use lib.Pow.{pow-add, pow_mono}
 use lib.Arith.{digits_lt}
 use lib.Dec.{lit<}
-use Rattle.number.specs.Groups.{value, most_groups, group_bits, radix}
+use Rattle.number.specs.Groups.{value, padded, most_groups, largest, group_bits, radix}
 use Rattle.number.specs.Inside.{AreGroups, Kept}
 use Rattle.number.specs.Inside.AreGroups.{none, more}
-use Rattle.number.proofs.Forming.{kept_groups, kept_length, kept_at}
+use Rattle.number.specs.Reading.{formed, too_large}
+use Rattle.number.specs.Reading.Found.{fault}
+use Rattle.number.proofs.Forming.{formed_large, kept_groups, kept_length, kept_at}
 
 -- one group more is seven bits more
 pub group_more : (n : ℕ) → 2 ^ (group_bits * suc n) ≡ 2 ^ (group_bits * n) * radix
@@ -33,6 +36,30 @@ bounded r h = lt_of_lt_of_le (value_lt r) (pow_mono {j = group_bits * most_group
 value_drop : (gs : List ℕ) (i : ℕ) → i < length gs → value (drop i gs) ≡ value (drop (suc i) gs) * radix + get_or gs i 0
 unfolding value
 value_drop gs i h = rw (drop-cons gs i 0 h)
+
+-- ---- zeros behind the groups, as in an array that they do not fill
+-- they add nothing
+pub value_zeros : (gs : List ℕ) (k : ℕ) → value (gs ++ replicate k 0) ≡ value gs
+unfolding value
+value_zeros [] zero = refl
+value_zeros [] (suc k) = rw (value_zeros [] k)
+value_zeros (g ∷ gs) k = rw (value_zeros gs k)
+
+-- and are groups themselves
+pub groups_zeros : {gs : List ℕ} (k : ℕ) → AreGroups gs → AreGroups (gs ++ replicate k 0)
+groups_zeros zero none = none
+groups_zeros (suc k) none = more (lit< tt) (groups_zeros k none)
+groups_zeros k (more h r) = more h (groups_zeros k r)
+
+-- so it is for the groups that came that the value of the whole array is too large
+pub too_large_lem :
+    (count : ℕ) (groups : List ℕ) → drop count groups ≡ replicate (most_groups - count) 0 →
+    padded (take count groups) ≡ false → largest < value groups → formed (take count groups) ≡ fault too_large
+too_large_lem count groups zeros p h =
+    let all_is : groups ≡ take count groups ++ replicate (most_groups - count) 0 =
+    sym (take-append-drop count groups) ∙ ap (λ (rest : List ℕ). take count groups ++ rest) zeros in
+    let value_all : value groups ≡ value (take count groups) = ap value all_is ∙ value_zeros (take count groups) (most_groups - count) in
+    formed_large (take count groups) p (rw value_all at h)
 
 -- ---- the loop: the groups before i are formed, and a group at i has the weight
 pub record Forms (groups : List ℕ) (v w i : ℕ) : Type 0 where
@@ -64,6 +91,10 @@ module _ (groups : List ℕ) (v w i : ℕ) (f : Forms groups v w i) where
     -- and the next group has the next weight
     pub next : Forms groups (v + get_or groups i 0 * w) (w * radix) (suc i)
     next = record { value_is = turn; weight_is = ap (λ (k : ℕ). k * radix) f.weight_is ∙ sym (group_more i) }
+
+    -- and the next weight is no more than that behind the last group
+    pub weight_small : i < most_groups → w * radix ≤ 2 ^ (group_bits * most_groups)
+    weight_small h = rw next.weight_is (pow_mono {j = group_bits * most_groups} (omega arith))
 
 -- ---- the same over groups as the code keeps them: the group at i is one of those that came
 module _ {all : List ℕ} {count last_kept : ℕ} {groups : List ℕ} (k : Kept all count last_kept) (is : take count all ≡ groups) {v w i : ℕ} (f : Forms groups v w i) (below : i < count) where

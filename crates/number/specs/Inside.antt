@@ -1,10 +1,9 @@
 -- What the private functions say to each other of the groups of a number. No promise of a public function rests on it.
 use Rattle.std.specs.Prelude.{ℕ, Bool, nat_lt, Result, Ok, Err, ◌-◌, ◌≤◌, ◌<◌, ◌≡◌, List, [], ◌∷◌, length, get_or, take}
 use Rattle.number.specs.declared.Fault.{Fault}
+use Rattle.number.specs.declared.Fault.TheVariants.{Ends, NotShortest, TooLarge}
 use Rattle.number.specs.Groups.{gather, most_groups, radix}
-use Rattle.number.specs.Groups.Gathering.{whole}
-use Rattle.number.specs.Reading.{reading}
-use Rattle.number.specs.Finding.{finds}
+use Rattle.number.specs.Groups.Gathering.{whole, cut, long}
 
 -- Each is a group: below 128.
 pub data AreGroups : List ℕ → Type 0 where
@@ -19,10 +18,12 @@ pub record Kept (all : List ℕ) (count last : ℕ) : Type 0 where
   pub are_groups : AreGroups (take count all)
   pub at_last : get_or all (count - 1) 0 ≡ last
 
--- What gathering says of the bytes: the groups at their front, or the fault that is there.
+-- What gathering says of the bytes: the groups at their front; or that they end first; or that there are more groups than a number may have.
 abbrev pub Gathered : (bytes : List ℕ) → Result (List ℕ) Fault → Type 0
 Gathered bytes (Ok groups) = gather most_groups bytes ≡ whole groups
-Gathered bytes (Err fault) = finds (Err fault) ≡ reading bytes
+Gathered bytes (Err Ends) = gather most_groups bytes ≡ cut
+Gathered bytes (Err NotShortest) = ⊥
+Gathered bytes (Err TooLarge) = gather most_groups bytes ≡ long
 
 -- Whether none follows a byte (rule 1.1).
 abbrev pub is_last : ℕ → Bool

@@ -3,7 +3,7 @@ use Prim.Native.Nat.{ℕ, ◌+◌, ◌*◌, ◌/◌, ◌≤◌, ◌<◌}
 use mathlib.Core.Path.{◌≡◌, refl, sym, ap, ◌∙◌}
 use mathlib.Core.List.{List, [], ◌∷◌, ◌++◌, append-nil, append_assoc, flat_map}
 use native.Mathlib.Numerals.{add-one}
-use native.Mathlib.Nat.{mul_comm, mul-zero, div-zero, div-eq_of_lt-le}
+use native.Mathlib.Nat.{mul_comm, mul-zero, div-zero, div-eq_of_lt-le, div-mul-le_self, mul-le-mul_left}
 use native.Mathlib.Omega.{arith}
 use lib.ListN.{length, take, drop, get_or, length-append, length-drop}
 use lib.Seq.{take-suc, take_all, take_at, drop_at, drop-drop}
@@ -44,6 +44,10 @@ module _ (text : ℕ → List ℕ) where
 pub row_line : (letter : List ℕ) (own : ℕ) (numbers : List ℕ) → letter ++ spaced own ++ text_line [] numbers ≡ text_line letter (own ∷ numbers)
 unfolding flat_map text_line
 row_line letter own numbers = simp append_assoc
+
+-- a row that is there lies within the table
+pub row_within : (table width row : ℕ) → row < table / width → width * row + width ≤ table
+row_within table width row there = omega (arith, mul-le-mul_left width there, div-mul-le_self table width)
 
 -- ---- rows, from the front of the numbers that are left
 -- So many rows are put, and these numbers are left.

@@ -6,7 +6,7 @@ pub mod Decimal
 pub mod Hexadecimal
 -- lines of words and numbers, the R line and the rows of a table
 pub mod Lines
--- text in a lent buffer: what the functions promise
+-- text in a buffer, a `Text`'s room or a lent one: what the functions promise
 pub mod Put
 -- what is answered when it is handed over
 pub mod HandedOver

@@ -50,46 +50,66 @@ impl<const N: usize> Text<N> {
     pub fn put_words(&mut self, words: &[u8])
         ensures { Put words.now self.old.end self.old.room self.new.end self.new.room }
     {
-        self.start();
-        for byte in words {
-            self.put_byte(*byte);
-        }
+        self.end = put_words(&mut self.room, self.end, words);
     }
 
     // Puts a number's decimal digits.
     pub fn put_number(&mut self, number: u64)
         ensures { Put (decimal number) self.old.end self.old.room self.new.end self.new.room }
     {
-        let mut digits = [0; MOST_DIGITS];
-        let count = io::decimal(number, &mut digits);
-        self.put_words(&digits[..count]);
+        self.end = put_number(&mut self.room, self.end, number);
     }
 
     // Puts a number with a space before it.
     pub fn put_spaced(&mut self, number: u64)
         ensures { Put (spaced number) self.old.end self.old.room self.new.end self.new.room }
     {
-        self.put_byte(b' ');
-        self.put_number(number);
+        self.end = put_spaced(&mut self.room, self.end, number);
     }
+}
 
-    // Puts nothing: from past the room, text starts one byte past it.
-    pub(crate) fn start(&mut self)
-        ensures { Put [] self.old.end self.old.room self.new.end self.new.room }
-    {
-        self.end = self.end.min(self.room.len() + 1);
+// Puts words, or any bytes, into a lent buffer at a byte, and answers the byte behind them.
+pub fn put_words(buffer: &mut [u8], at: usize, words: &[u8]) -> usize
+    ensures { Put words.now at buffer.old result buffer.new }
+{
+    let mut end = start(buffer, at);
+    for byte in words {
+        end = put_byte(buffer, end, *byte);
     }
+    end
+}
 
-    // Puts one byte, if there is room for it.
-    pub(crate) fn put_byte(&mut self, byte: u8)
-        ensures { Put (byte ∷ []) self.old.end self.old.room self.new.end self.new.room }
-    {
-        let end = self.end;
-        if self.room.len() <= end {
-            self.end = self.room.len() + 1;
-            return;
-        }
-        self.room[end] = byte;
-        self.end = end + 1;
+// Puts a number's decimal digits.
+pub fn put_number(buffer: &mut [u8], at: usize, number: u64) -> usize
+    ensures { Put (decimal number) at buffer.old result buffer.new }
+{
+    let mut digits = [0; MOST_DIGITS];
+    let count = io::decimal(number, &mut digits);
+    put_words(buffer, at, &digits[..count])
+}
+
+// Puts a number with a space before it.
+pub fn put_spaced(buffer: &mut [u8], at: usize, number: u64) -> usize
+    ensures { Put (spaced number) at buffer.old result buffer.new }
+{
+    let at = put_byte(buffer, at, b' ');
+    put_number(buffer, at, number)
+}
+
+// Puts nothing: from past the buffer, text starts one byte past it.
+pub(crate) fn start(buffer: &[u8], at: usize) -> usize
+    ensures { Put [] at buffer.now result buffer.now }
+{
+    at.min(buffer.len() + 1)
+}
+
+// Puts one byte, if there is room for it.
+pub(crate) fn put_byte(buffer: &mut [u8], at: usize, byte: u8) -> usize
+    ensures { Put (byte ∷ []) at buffer.old result buffer.new }
+{
+    if buffer.len() <= at {
+        return buffer.len() + 1;
     }
+    buffer[at] = byte;
+    at + 1
 }

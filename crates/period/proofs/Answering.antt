@@ -43,7 +43,7 @@ module _ (plant_table segment_table bytes : ℕ) where
   ruled_by (refuses notice) settled = refusal notice
   ruled_by accepts settled = tested (table_tests_of settled) (rows_of settled)
 
-  abbrev ruled : Settlement → Ruling
+  abbrev pub ruled : Settlement → Ruling
   ruled settled = ruled_by settled.verdict settled
 
   -- tests before those of the tables
@@ -66,7 +66,7 @@ module _ (plant_table segment_table bytes : ℕ) where
       (rw (long, counted, counted', plant_rows_are period, segment_rows_are (accounts_of period)) refl)
 
   -- and on a file
-  ruling_is : (file : List ℕ) → length file ≡ bytes → quantified file plant_table segment_table ≡ ruled (settlement file)
+  pub ruling_is : (file : List ℕ) → length file ≡ bytes → quantified file plant_table segment_table ≡ ruled (settlement file)
   unfolding quantified settlement
   ruling_is file long = by_outcome (period_file file)
     where

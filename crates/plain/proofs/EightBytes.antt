@@ -94,8 +94,11 @@ pub table_at : (table : List ℕ) (index : ℕ) → index < whole_numbers table 
 table_at table index inside = first_at (whole_numbers table) index table inside
 
 -- and behind the last there is none
+get_or_behind : (l : List ℕ) (index : ℕ) → length l ≤ index → get_or l index 0 ≡ 0
+get_or_behind l index behind = get_or_past l index 0 behind
+
 pub table_behind : (table : List ℕ) (index : ℕ) → whole_numbers table ≤ index → get_or (table_numbers table) index 0 ≡ 0
-table_behind table index behind = get_or_past (table_numbers table) index 0 (omega (arith, behind, first_length (whole_numbers table) table))
+table_behind table index behind = get_or_behind (table_numbers table) index (omega (arith, behind, first_length (whole_numbers table) table))
 
 -- ---- the number of eight bytes, as the library reads it
 -- one byte more counts for the power of its index

@@ -6,7 +6,7 @@ use native.Mathlib.Numerals.{add-one}
 use native.Mathlib.Omega.{arith}
 use lib.ListN.{length, take, drop, get_or, length-append, take-append-drop}
 use lib.Seq.{sets, take-suc, take-length, take_at, drop_at, drop-drop, length-take-le}
-use borrow.Author.Tests.{le-leb}
+use borrow.Author.Tests.{le-leb, lt-leb}
 use Rattle.std.proofs.lemmas.Grind.{flat_map-append}
 use Rattle.plain.specs.Bytes.{number_bytes, eight_bytes, row_between, WriteRowPromise}
 use Rattle.plain.proofs.EightBytes.{length_bytes, set_between}
@@ -95,6 +95,13 @@ module _ {table : List ℕ} {at : ℕ} {row written : List ℕ} {n : ℕ} (w : R
       w.so_far
       ∙ ap (λ (k : ℕ). take at table ++ flat_map eight_bytes (take k row) ++ drop (at + number_bytes * k) table) here
       ∙ ap (λ (l : List ℕ). take at table ++ flat_map eight_bytes l ++ drop (at + number_bytes * length row) table) (take-length row)
+
+-- ---- the row whole, or nothing
+pub row_fits : (table : List ℕ) (at : ℕ) (row table' : List ℕ) → at + number_bytes * length row ≤ length table → table' ≡ row_between table at row → WriteRowPromise row at table table'
+row_fits table at row table' room is = is ∙ sym (rw (le-leb (at + number_bytes * length row) (length table) room) refl)
+
+pub row_short : (table : List ℕ) (at : ℕ) (row : List ℕ) → length table < at + number_bytes * length row → WriteRowPromise row at table table
+row_short table at row short = sym (rw (lt-leb (at + number_bytes * length row) (length table) short) refl)
 
 -- where there is room, the row stands between what was before and behind it
 pub row_there :

@@ -33,7 +33,7 @@ one_records one none room count file start r s p q = found_once r s (p ∙ sym q
 pub one_header_read : (file : List ℕ) (r s : RecordRead Counts) → ReadHeaderPromise file r → ReadHeaderPromise file s → r ≡ s
 one_header_read file r s p q = found_once r s (p ∙ sym q)
 
--- `read_record` of a plant, a segment and a line: so are two of its answers, of one file at one spot and by one header's counts
+-- `read_plant`, `read_segment`, `read_line`: so are two answers of each, of one file at one spot and by one header's counts
 module _ (file : List ℕ) (start : Spot) (counts : Counts) where
   pub one_plant : (r s : RecordRead Plant) → ReadPlantPromise file start counts r → ReadPlantPromise file start counts s → r ≡ s
   one_plant r s p q = found_once r s (p ∙ sym q)

@@ -43,15 +43,15 @@ ReadRecordPromise reader file start r = record_found r ≡ reads_from reader fil
 abbrev pub ReadRecordsPromise : {A : Type 0} → (ℕ → Reader A) → (none : A) (room count : ℕ) (file : List ℕ) → Spot → RecordRead (List A) → Type 0
 ReadRecordsPromise one none room count file start r = record_found r ≡ in_array none room (reads_from (each one 1 (min count room)) file start)
 
--- `read_record` of a plant, by any counts (rules 2.4 and 8.3).
+-- `read_plant`: a plant, from any spot of a file on and by any counts (rules 2.4 and 8.3).
 abbrev pub ReadPlantPromise : (file : List ℕ) → Spot → Counts → RecordRead Plant → Type 0
 ReadPlantPromise file start counts = ReadRecordPromise (periods.plant counts) file start
 
--- Of a segment, in the same way, and by any number of its own (rules 2.5 to 2.7 and 8.3).
+-- `read_segment`: a segment, in the same way, and by any number of its own (rules 2.5 to 2.7 and 8.3).
 abbrev pub ReadSegmentPromise : (file : List ℕ) → Spot → (own : ℕ) → Counts → RecordRead Segment → Type 0
 ReadSegmentPromise file start own counts = ReadRecordPromise (periods.segment counts own) file start
 
--- Of a line, in the same way (rules 2.8, 3.2 and 8.3).
+-- `read_line`: a line, in the same way (rules 2.8, 3.2 and 8.3).
 abbrev pub ReadLinePromise : (file : List ℕ) → Spot → Counts → RecordRead Line → Type 0
 ReadLinePromise file start counts = ReadRecordPromise (periods.line counts) file start
 

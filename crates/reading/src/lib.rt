@@ -5,9 +5,11 @@
 #![tactic(auto)]
 
 pub mod header;
+pub mod kinds;
 pub mod record;
 pub mod whole;
 
 pub use crate::header::{header_of, read_header};
+pub use crate::kinds::{read_line, read_plant, read_segment};
 pub use crate::record::{read_record, read_records};
 pub use crate::whole::verdict;

@@ -47,6 +47,11 @@ not_found (class ∷ rest) first code t outside =
     rw (ne_eqb class.code code (λ e. ⊎_elim (λ p. omega (arith, p)) (λ p. omega (arith, p)) outside))
     (not_found rest (suc first) code in_place.1 (⊎_elim (λ p. inl (omega (arith, p))) (λ p. inr (omega (arith, p))) outside))
 
+-- the code of a row
+pub code_at : (row : ℕ) → row < length classes → (get_or classes row no_class).code ≡ first_code + row
+unfolding in_order classes
+code_at row h = eqb→eq (get_or classes row no_class).code (first_code + row) (at_row in_order first_code classes no_class tt row h)
+
 -- the row of a code that the table has
 pub row_of_lem : (code : ℕ) → first_code ≤ code → code ≤ length classes → get_or classes (code - first_code) no_class ≡ class_of code
 unfolding in_order classes class_of
@@ -60,7 +65,7 @@ unfolding in_order classes class_of
 no_row code outside = not_found classes first_code code tt (⊎_elim (λ p. inl (omega (arith, p))) (λ p. inr (omega (arith, p))) outside)
 
 -- ---- whether a row allows its class to a segment
-allows_segment : (class : Class) (owner_kind : ℕ) → owner_kind ≡ segment_owner → class.segment ≡ allows class owner_kind
+pub allows_segment : (class : Class) (owner_kind : ℕ) → owner_kind ≡ segment_owner → class.segment ≡ allows class owner_kind
 allows_segment class owner_kind e = rw (ne_eqb owner_kind plant_owner (λ h. omega arith), eq-eqb owner_kind segment_owner e) refl
 
 -- ---- nobody is allowed a class that the table does not have

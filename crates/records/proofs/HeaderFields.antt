@@ -1,10 +1,12 @@
--- The fields of the header by their index: what each is tested for, and the counts that the numbers make that an array has in front.
-use Prim.Native.Nat.{ℕ, zero, suc}
+-- The fields of the header by their index: with which reason each is refused, what each is tested for, and the counts that the numbers make that an array has in front.
+use Prim.Native.Nat.{ℕ, zero, suc, ◌<◌}
 use mathlib.Core.Path.{◌≡◌, refl, ap}
 use mathlib.Core.Bool.{Bool, true}
 use mathlib.Core.List.{List, [], ◌∷◌}
+use native.Mathlib.Omega.{arith}
 use lib.Dec.{eqb}
-use lib.ListN.{length, take}
+use lib.ListN.{length, get_or, take}
+use Rattle.fields.specs.declared.reason.Reason.TheVariants.{Ends}
 use Rattle.fields.specs.Ranges.{any_amount}
 use Rattle.fields.specs.Readers.{return, onward, allows_next}
 use Rattle.fields.proofs.ByIndex.{number, spelt, spelt_out}
@@ -13,6 +15,16 @@ use Rattle.records.specs.Plants.{plants_allowed}
 use Rattle.records.specs.Segments.{segments_allowed}
 use Rattle.records.specs.Lines.{line_fields, lines_allowed}
 use Rattle.records.specs.Headers.{edition, announced, header, header_fields}
+use Rattle.records.specs.FieldTests.{header_reason}
+use Rattle.records.specs.Kinds.{header_reasons}
+
+-- the reason of each is the one that it is refused for
+pub header_reason_lem : (field : ℕ) → field < header_fields → get_or header_reasons field Ends ≡ header_reason field
+header_reason_lem zero here = refl
+header_reason_lem (suc zero) here = refl
+header_reason_lem (suc (suc zero)) here = refl
+header_reason_lem (suc (suc (suc zero))) here = refl
+header_reason_lem (suc (suc (suc (suc behind)))) here = absurd (omega (arith, here))
 
 -- what each field is tested for
 abbrev pub header_test : ℕ → ℕ → Bool

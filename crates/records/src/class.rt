@@ -23,7 +23,9 @@ pub struct Class {
 impl Class {
     // How many rows the table has.
     pub const ROWS: usize = 9;
-    // The code of its last row; the first has 1.
+    // The codes of its first row and its last.
+    pub const FIRST: u64 = 1;
+
     pub const LAST: u64 = Class::ROWS as u64;
     // The largest factor, and the only one of what is captured, whose quantity is CO2 in kg (rule 3.3).
     pub const LARGEST_FACTOR: u64 = 1_000_000_000;

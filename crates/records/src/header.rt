@@ -7,6 +7,7 @@ use crate::segment::Segment;
 use fields::Reason;
 
 // The name of its constants and tests. What it tells of the records behind it are `Counts`.
+#[derive(Clone, Copy)]
 pub struct Header;
 
 impl Header {

@@ -137,7 +137,7 @@ module _ {gathered : Gathered} (given : Given gathered) where
     next_tests lines is =
         rw (drop-cons (segments_in gathered) s no_segment (rw given.segments_counted below), account_is lines is, ← after_on s below) refl
 
-    reached :
+    pub reached :
         (lines : List Line) → EmissionsOf gathered lines → (rest : List Test) (settled : Settlement) →
         settled_by (tests_left gathered lines 0 ++ rest) settled ≡ settled_by (own_tests ++ (tests_left gathered lines (suc s) ++ rest)) settled
     reached lines is rest settled =

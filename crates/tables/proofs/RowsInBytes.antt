@@ -28,14 +28,14 @@ module _ {A : Type 0} (row : A → List ℕ) (all : List A) where
     -- those of one more row are
     pub bytes_on :
         k < length all → (one : A) {written : List ℕ} → one ≡ get_or all k one → written ≡ row one → length written ≡ numbers →
-        (table' : List ℕ) → WriteRowPromise written (number_bytes * numbers * k) table table' →
+        (at : ℕ) → at ≡ number_bytes * numbers * k → (table' : List ℕ) → WriteRowPromise written at table table' →
         Writing (number_bytes * numbers) first_bytes (length all) entry table' (k + 1)
-    bytes_on more one {written} there is long table' promised =
+    bytes_on more one {written} there is long at here table' promised =
         let sized : length (flat_map eight_bytes written) ≡ number_bytes * numbers = length_all written ∙ ap (λ (n : ℕ). number_bytes * n) long in
         let next = rows_on row all one k more ∙ ap (λ (l : List ℕ). first_rows row all k ++ l) (ap row (sym there) ∙ sym is) in
         writing_on w more (flat_map eight_bytes written) table' sized
         (ap (flat_map eight_bytes) next ∙ bytes_of_both (first_rows row all k) written)
-        (row_there table (number_bytes * numbers * k) written table' (omega (arith, long, writing_room w more)) promised
+        (row_there table (number_bytes * numbers * k) written table' (omega (arith, long, writing_room w more)) (rw here at promised)
         ∙ ap (λ (n : ℕ). take (number_bytes * numbers * k) table ++ flat_map eight_bytes written ++ drop (number_bytes * numbers * k + number_bytes * n) table) long)
 
     -- all are

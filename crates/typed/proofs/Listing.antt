@@ -12,8 +12,9 @@ use borrow.Author.Tests.{lt-leb}
 use Rattle.plain.specs.Bytes.{number_bytes, whole_numbers, eight_bytes, bytes_overwritten, plain_written}
 use Rattle.plain.proofs.EightBytes.{written_between}
 use Rattle.plain.proofs.NumbersInBytes.{length_all, bytes_last}
+use Rattle.typed.specs.Text.{State, between, within, remark, ending}
 use Rattle.typed.specs.Promises.{list_with}
-use Rattle.typed.specs.Inside.{one_listed}
+use Rattle.typed.specs.Inside.{one_listed, ending_listed}
 
 -- ---- numbers written over a list that has room for them
 overwritten_length : (numbers list : List ℕ) → length numbers ≤ whole_numbers list → length (bytes_overwritten numbers list) ≡ length list
@@ -71,3 +72,9 @@ listed_on numbers list number = by_room (dec_lt (length numbers) (whole_numbers 
 pub one_listed_lem : (number : Option ℕ) (numbers list : List ℕ) → one_listed number (list_with numbers list) (length numbers) ≡ list_with (numbers ++ option_to_list number) list
 one_listed_lem None numbers list = rw (append-nil numbers) refl
 one_listed_lem (Some number) numbers list = listed_on numbers list number
+
+-- the number that a state is within, if there is one
+pub ending_listed_lem : (state : State) (numbers list : List ℕ) → ending_listed state (list_with numbers list) (length numbers) ≡ list_with (numbers ++ ending state) list
+ending_listed_lem between = one_listed_lem None
+ending_listed_lem (within value) = one_listed_lem (Some value)
+ending_listed_lem remark = one_listed_lem None

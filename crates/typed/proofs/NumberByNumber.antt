@@ -2,21 +2,21 @@
 use Prim.Native.Nat.{ℕ, ◌+◌, ◌≤◌, ◌<◌}
 use mathlib.Core.Path.{◌≡◌, refl, sym, ◌∙◌}
 use mathlib.Core.Bool.{Bool, true, false, cond}
-use mathlib.Core.List.{List, [], ◌++◌, append_assoc}
+use mathlib.Core.List.{List, [], ◌++◌, append_assoc, append-nil}
 use native.Mathlib.Omega.{arith}
 use Rattle.std.specs.Prelude.{Option}
 use Rattle.std.specs.Option.{option_to_list}
 use lib.ListN.{length, get_or, drop, length-append, drop_of_length-le}
 use Rattle.typed.specs.Text.{State, between, is_digit, after, ending, ended_by, numbers_from, numbers_in}
 use Rattle.typed.specs.Promises.{list_with}
-use Rattle.typed.specs.Inside.{AllListed, one_listed}
+use Rattle.typed.specs.Inside.{AllListed, one_listed, ending_listed, ended_listed}
 use Rattle.typed.proofs.AsManyStarts.{byte_turn, starts_or_ends}
 use Rattle.typed.proofs.NextByte.{next_byte}
-use Rattle.typed.proofs.Listing.{listed_none, one_listed_lem}
+use Rattle.typed.proofs.Listing.{listed_none, one_listed_lem, ending_listed_lem}
 
 -- ---- no more numbers than bytes
 -- a byte ends a number, or one may go on behind it
-ended_room : (state : State) (byte : ℕ) → length (ended_by state byte) + length (ending (after state byte)) ≤ length (ending state) + 1
+pub ended_room : (state : State) (byte : ℕ) → length (ended_by state byte) + length (ending (after state byte)) ≤ length (ending state) + 1
 ended_room state byte = omega (arith, byte_turn state byte 0, starts_or_ends state byte 0)
 
 -- a byte ends no more numbers than the text's end would
@@ -26,6 +26,16 @@ ended_few state byte = by_kind (is_digit byte)
     by_kind : (d : Bool) → length (cond d [] (ending state)) ≤ length (ending state)
     by_kind true = omega arith
     by_kind false = omega arith
+
+-- ---- the number that a byte ends
+pub ended_listed_lem :
+    (state : State) (byte : ℕ) (numbers list : List ℕ) →
+    ended_listed state byte (list_with numbers list) (length numbers) ≡ list_with (numbers ++ ended_by state byte) list
+ended_listed_lem state byte numbers list = by_kind (is_digit byte)
+  where
+    by_kind : (d : Bool) → cond d (list_with numbers list) (ending_listed state (list_with numbers list) (length numbers)) ≡ list_with (numbers ++ cond d [] (ending state)) list
+    by_kind true = rw (append-nil numbers) refl
+    by_kind false = ending_listed_lem state numbers list
 
 -- ---- the loop: the numbers that ended so far are counted and listed
 pub record SoFarListed (text list : List ℕ) (list' : List ℕ) (state : State) (count i : ℕ) : Type 0 where

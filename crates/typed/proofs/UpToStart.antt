@@ -5,13 +5,17 @@ use mathlib.Core.Bool.{true, false}
 use mathlib.Core.List.{List}
 use native.Mathlib.Omega.{arith}
 use lib.ListN.{length, get_or, drop, drop_of_length-le}
-use Rattle.typed.specs.Text.{State, after, starts_number, starts_from, starts_in}
+use Rattle.typed.specs.Text.{State, between, after, starts_number, starts_from, starts_in}
 use Rattle.typed.proofs.NextByte.{next_byte}
 
 -- so far some numbers started, and `before` more come before the one at a place
 pub record StartAhead (text : List ℕ) (place : ℕ) (state : State) (before i : ℕ) : Type 0 where
   pub inside : i ≤ length text
   pub start_is : get_or (starts_in text) place (length text) ≡ get_or (starts_from state i (drop i text)) before (length text)
+
+-- before the first turn
+pub none_started : (text : List ℕ) (place : ℕ) → StartAhead text place between place 0
+none_started text place = record { inside = omega arith; start_is = refl }
 
 module _ {text : List ℕ} {place : ℕ} {state : State} {before i : ℕ} (so_far : StartAhead text place state before i) where
   -- the number's start

@@ -5,13 +5,17 @@ use mathlib.Core.Bool.{true, false}
 use mathlib.Core.List.{List}
 use native.Mathlib.Omega.{arith}
 use lib.ListN.{length, get_or, drop}
-use Rattle.typed.specs.Text.{State, after, is_stray, before_stray, first_stray}
+use Rattle.typed.specs.Text.{State, between, after, is_stray, before_stray, first_stray}
 use Rattle.typed.proofs.NextByte.{next_byte}
 
 -- so far no byte was stray
 pub record NoneStray (text : List ℕ) (state : State) (i : ℕ) : Type 0 where
   pub inside : i ≤ length text
   pub stray_is : first_stray text ≡ i + before_stray state (drop i text)
+
+-- before the first turn
+pub none_stray : (text : List ℕ) → NoneStray text between 0
+none_stray text = record { inside = omega arith; stray_is = omega arith }
 
 module _ {text : List ℕ} {state : State} {i : ℕ} (so_far : NoneStray text state i) where
   module _ (more : i < length text) where

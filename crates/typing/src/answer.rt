@@ -8,7 +8,7 @@ ghost use Rattle.typing.specs.Promises.{PutAnswerPromise, PutFaultPromise, PutWr
 use crate::listing::{Fault, list_text};
 use crate::room::{MOST_TEXT, list_room};
 use fields::Refusal;
-use output::Text;
+use output::{Text, put_line, put_refusal};
 use plain::NUMBER_BYTES;
 use typed::number_start;
 
@@ -29,39 +29,58 @@ pub fn put_answer<K: Kind, const N: usize>(answer: &mut Text<N>, text: &[u8])
 {
     let mut list = list_room();
     match list_text(text, &mut list) {
-        Err(fault) => put_fault(answer, fault),
+        Err(fault) => answer.end = put_fault_at(&mut answer.room, answer.end, fault),
         Ok(count) => {
             let bytes = NUMBER_BYTES * count;
             let written = K::write(&list[..bytes], &mut answer.room);
-            put_written(answer, text, written);
+            answer.end = put_written_at(&mut answer.room, answer.end, text, written);
         }
     }
 }
 
-// Puts the line of a text whose numbers are not looked at: L and the limit, or T, the offset and the byte (rule 16.5).
-pub fn put_fault<const N: usize>(answer: &mut Text<N>, fault: Fault)
-    ensures { PutFaultPromise fault answer.old.end answer.old.room answer.new.end answer.new.room }
+// Puts the line of a text whose numbers are not looked at to the start of a lent buffer, and answers the byte behind it: L and the limit, or T, the offset
+// and the byte (rule 16.5).
+pub fn put_fault(buffer: &mut [u8], fault: Fault) -> usize
+    ensures { PutFaultPromise fault 0 buffer.old result buffer.new }
+{
+    put_fault_at(buffer, 0, fault)
+}
+
+// The same, at any byte.
+pub(crate) fn put_fault_at(buffer: &mut [u8], at: usize, fault: Fault) -> usize
+    ensures { PutFaultPromise fault at buffer.old result buffer.new }
 {
     match fault {
-        Fault::Long => answer.put_line(b"L", &[MOST_TEXT as u64]),
-        Fault::Stray(stray) => answer.put_line(b"T", &[stray.offset as u64, u64::from(stray.byte)]),
+        Fault::Long => put_line(buffer, at, b"L", &[MOST_TEXT as u64]),
+        Fault::Stray(stray) => {
+            let numbers = [stray.offset as u64, u64::from(stray.byte)];
+            put_line(buffer, at, b"T", &numbers)
+        }
     }
 }
 
-// Lets a file that was written be all that is printed; or puts the line of its refusal, with the offset in the text of the number at its place (rule
-// 16.5).
-pub fn put_written<const N: usize>(
-    answer: &mut Text<N>,
+// The byte behind a file that was written to a lent buffer; or puts the line of its refusal to the start, with the offset in the text of the number at its
+// place, and answers the byte behind that (rule 16.5).
+pub fn put_written(buffer: &mut [u8], text: &[u8], written: Result<usize, Refusal>) -> usize
+    ensures { PutWrittenPromise text.now written 0 buffer.old result buffer.new }
+{
+    put_written_at(buffer, 0, text, written)
+}
+
+// The same, with the line at any byte.
+pub(crate) fn put_written_at(
+    buffer: &mut [u8],
+    at: usize,
     text: &[u8],
     written: Result<usize, Refusal>,
-)
-    ensures { PutWrittenPromise text.now written answer.old.end answer.old.room answer.new.end answer.new.room }
+) -> usize
+    ensures { PutWrittenPromise text.now written at buffer.old result buffer.new }
 {
     match written {
-        Ok(bytes) => answer.end = bytes,
+        Ok(bytes) => bytes,
         Err(refusal) => {
             let offset = number_start(text, refusal.place) as u64;
-            answer.put_refusal(Refusal { offset, ..refusal });
+            put_refusal(buffer, at, Refusal { offset, ..refusal })
         }
     }
 }

@@ -3,6 +3,7 @@
 
 pub mod answer;
 pub mod listing;
+pub mod on_text;
 pub mod room;
 
 pub use crate::answer::{Kind, put_answer, put_fault, put_written};

@@ -26,8 +26,7 @@ pub(crate) fn write_file(numbers: &[u8], bytes: usize, buffer: &mut [u8]) -> Res
     Ok(bytes)
 }
 
-// Writes all numbers, each in its shortest form, one behind another (rule 15.1). Not put into its caller: its loop needs the registers.
-#[inline(never)]
+// Writes all numbers, each in its shortest form, one behind another (rule 15.1).
 fn write_numbers(numbers: &[u8], buffer: &mut [u8])
     requires { length (file_of (table_numbers numbers.now)) ≤ length buffer.old }
     ensures { buffer.new ≡ buffer_after (file_of (table_numbers numbers.now)) buffer.old }

@@ -3,4 +3,4 @@ use Rattle.output.proofs.Putting.{put_then}
 use Rattle.names.proofs.put_record.Goals as goal
 
 pub returns : goal.returns
-returns g c = put_then (put_then c.put_words.ensures c.put_spaced.ensures) c.put_words-2.ensures
+returns c = put_then (put_then c.put_words-at.ensures c.put_spaced-at.ensures) c.put_words.ensures

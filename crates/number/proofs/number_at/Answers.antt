@@ -1,6 +1,6 @@
 -- `number::number_at` meets its contract: what was gathered from the byte on decides the case. Assumes nothing.
 use Prim.Native.Nat.{ℕ, ◌-◌}
-use mathlib.Core.Path.{◌≡◌, refl, sym, ap, ◌∙◌}
+use mathlib.Core.Path.{◌≡◌, sym, ap, ◌∙◌}
 use mathlib.Core.List.{List}
 use native.Mathlib.Omega.{arith}
 use lib.ListN.{length, take, drop, length-drop}
@@ -10,10 +10,10 @@ use Rattle.std.proofs.Common.{rules}
 use Rattle.number.specs.declared.Fault.{Fault}
 use Rattle.number.specs.declared.Fault.TheVariants.{Ends, NotShortest, TooLarge}
 use Rattle.number.specs.Groups.{gather, most_groups}
-use Rattle.number.specs.Groups.Gathering.{whole}
-use Rattle.number.specs.Reading.{from, reading, read_at}
+use Rattle.number.specs.Groups.Gathering.{whole, cut, long}
+use Rattle.number.specs.Reading.{read_at}
 use Rattle.number.specs.Finding.{finds}
-use Rattle.number.proofs.Laws.{at_byte}
+use Rattle.number.specs.Inside.{Gathered}
 use Rattle.number.proofs.FrontGroups.{fronts, within}
 use Rattle.number.proofs.Findings.{gathered_is}
 use Rattle.number.proofs.number_at.Goals as goal
@@ -23,13 +23,10 @@ all : (file : List ℕ) (at : ℕ) → take (length file - at) (drop at file) �
 all file at = take_all (length file - at) (drop at file) (omega (arith, length-drop at file))
 
 -- a fault of those bytes is that of the byte
-fault_at : (file : List ℕ) (at : ℕ) (f : Fault) → finds (Err f) ≡ reading (take (length file - at) (drop at file)) → finds (Err f) ≡ read_at file at
-fault_at file at f e = kept f ∙ ap (from at) (e ∙ ap reading (all file at)) ∙ sym (at_byte file at)
-  where
-    kept : (f : Fault) → finds (Err f) ≡ from at (finds (Err f))
-    kept Ends = refl
-    kept NotShortest = refl
-    kept TooLarge = refl
+fault_at : (file : List ℕ) (at : ℕ) (f : Fault) → Gathered (take (length file - at) (drop at file)) (Err f) → finds (Err f) ≡ read_at file at
+fault_at file at Ends e = sym (gathered_is file at cut (sym (ap (gather most_groups) (all file at)) ∙ e))
+fault_at file at NotShortest never = absurd never
+fault_at file at TooLarge e = sym (gathered_is file at long (sym (ap (gather most_groups) (all file at)) ∙ e))
 
 pub form-requires : goal.form-requires
 form-requires c =

@@ -5,7 +5,8 @@ use mathlib.Core.List.{List}
 use native.Mathlib.Omega.{arith}
 use lib.ListN.{take, drop, length, get_or, length-drop}
 use lib.Seq.{length-take-le}
-use Rattle.plain.specs.Bytes.{number_bytes, whole_numbers, value_of}
+use Rattle.std.specs.Int.{w64, from_le_bytes}
+use Rattle.plain.specs.Bytes.{number_bytes, whole_numbers, value_of, table_numbers}
 use Rattle.plain.proofs.EightBytes.{chunk_at, library_value, table_at, table_behind}
 use Rattle.plain.proofs.plain_at.Goals as goal
 
@@ -20,7 +21,8 @@ returns-in-Some c =
     same bytes ∙ ap (λ (l : List (List ℕ)). get_or l index bytes) c.as_chunks.ensures.front ∙ chunk_at (whole_numbers table) index table bytes inside in
     let eight : length bytes ≡ number_bytes =
     ap (λ (l : List ℕ). length l) bytes_are ∙ length-take-le number_bytes (drop (number_bytes * index) table) (omega (arith, length-drop (number_bytes * index) table)) in
-    c.from_le_bytes.ensures ∙ library_value bytes eight ∙ ap value_of bytes_are ∙ sym (table_at table index inside)
+    let read : from_le_bytes w64 bytes ≡ get_or (table_numbers table) index 0 = library_value bytes eight ∙ ap value_of bytes_are ∙ sym (table_at table index inside) in
+    omega (arith, read)
 
 pub returns-in-None : goal.returns-in-None
 returns-in-None c = sym (table_behind c.args.table.now c.args.index (omega (arith, c.in-None.ensures.lookup.3, c.as_chunks.ensures.front_len)))

@@ -1,13 +1,13 @@
 -- `gathering::emissions::add_lines` meets its contract: each turn of its loop reads one line and adds it, by the laws of the owners' totals. Assumes nothing.
 use Rattle.std.proofs.Common.{◌≡◌, ◌+◌, ◌-◌, Err, rules, arith, sym, refl}
 use Rattle.gathering.proofs.OwnerTotals.{line_fits, line_owner}
-use Rattle.gathering.proofs.LinesAdded.{AddingUp, none_added, one_added}
+use Rattle.gathering.proofs.LinesAdded.{AddingUp, none_added_lem, one_added}
 use Rattle.gathering.proofs.LinesEnded.{line_out, end_out, limit_out, lines_added}
 use Rattle.gathering.proofs.emissions.add_lines.Goals.{Left-loop-own, else-loop-own-test, then-loop-own-test+in_ok-line+else-own-own-end}
 use Rattle.gathering.proofs.emissions.add_lines.Goals as goal
 
 pub loop-own-init : goal.loop-own-init
-loop-own-init c = rw c.requires.none_added (none_added _ _ _ c.requires.byte_value)
+loop-own-init c = none_added_lem _ _ _ _ c.requires.none_added c.requires.byte_value
 
 pub returns-in_err-line : goal.returns-in_err-line
 returns-in_err-line c =

@@ -1,6 +1,6 @@
 -- `historian::call::write_tables` meets its contract: the file is settled, the room in the historian's tables is tested, and the rows are
 -- written as bytes. Assumes nothing.
-use Rattle.std.proofs.Common.{◌≡◌, Ok, Err, ◌∙◌, rules}
+use Rattle.std.proofs.Common.{◌≡◌, Ok, Err, ◌∙◌, rules, arith}
 use Rattle.settling.proofs.HowMany.{few_settled}
 use Rattle.period.proofs.Answering.{settled_refused, verdict_is}
 use Rattle.historian.proofs.Tables.{tables_stay, tables_written}
@@ -27,10 +27,13 @@ shared_ref_as_front-plant_accounts c =
     let was : c.settle_into.result ≡ Ok tt = search rules in
     let settled = rw was at c.settle_into.ensures.settles in rw settled.plant_count_is (few_settled c.args.file.now).plants
 
+-- there is room for as many segments as plants, too, so that only `returns` tells which count is right
 pub shared_ref_as_front-segment_accounts : goal.shared_ref_as_front-segment_accounts
 shared_ref_as_front-segment_accounts c =
     let was : c.settle_into.result ≡ Ok tt = search rules in
-    let settled = rw was at c.settle_into.ensures.settles in rw settled.segment_count_is (few_settled c.args.file.now).segments
+    let settled = rw was at c.settle_into.ensures.settles in
+    let few = few_settled c.args.file.now in
+    omega (arith, settled.plant_count_is, settled.segment_count_is, few.plants, few.segments)
 
 pub returns : goal.returns
 returns c =

@@ -14,10 +14,10 @@ pub slice_bounds-write-end : goal.slice_bounds-write-end
 slice_bounds-write-end g c = sym (length-take-le _ _ (counted_within (list_room_long c.list_room-list.ensures) c.in-Ok.ensures))
 
 pub returns-in-Err : goal.returns-in-Err
-returns-in-Err g c = as_listed _ _ _ _ _ _ c.in-Err.ensures.answer c.put_fault.ensures
+returns-in-Err g c = as_listed _ _ _ _ _ _ c.in-Err.ensures.answer c.put_fault_at-answer.ensures
 
 pub returns-in-Ok : goal.returns-in-Ok
 returns-in-Ok g c =
     let back = counted_back (list_room_long c.list_room-list.ensures) c.in-Ok.ensures in
     as_listed _ _ _ _ _ _ c.in-Ok.ensures.answer
-    (record { written = c.write-written.result; between = c.write-written.new.buffer; stands = rw back at c.write-written.ensures; put = c.put_written.ensures })
+    (record { written = c.write-written.result; between = c.write-written.new.buffer; stands = rw back at c.write-written.ensures; put = c.put_written_at-answer.ensures })

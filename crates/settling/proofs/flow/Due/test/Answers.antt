@@ -16,11 +16,12 @@ returns-then-inflow-self c =
     rw (c.refused-then-inflow-self.ensures, add-one)
     (outflow_refused a.self.bytes (figures a.self a.inflow) c.if-inflow-gt-LARGEST.false c.if-inflow-self.true)
 
+-- by `omega`, so that an edit of what is tested falls only where it lets something pass
 pub returns-then-inflow-eq0 : goal.returns-then-inflow-eq0
 returns-then-inflow-eq0 c =
     let a = c.args in
     rw (c.refused-then-inflow-eq0.ensures, add-one)
-    (emission_refused a.self.bytes (figures a.self a.inflow) c.if-inflow-gt-LARGEST.false c.if-inflow-self.false c.if-self-gt0.true c.if-inflow-eq0.true)
+    (emission_refused a.self.bytes (figures a.self a.inflow) c.if-inflow-gt-LARGEST.false c.if-inflow-self.false (omega (arith, c.if-self-gt0.true)) c.if-inflow-eq0.true)
 
 pub returns : goal.returns
 returns c =

@@ -1,8 +1,0 @@
--- `output::text::Text::put_bytes` meets its contract: each turn puts one byte more. Assumes nothing.
-use Rattle.std.proofs.Common.{take}
-use Rattle.output.specs.Hexadecimal.{bytes_text}
-use Rattle.output.specs.Put.{Put}
-use Rattle.output.proofs.text.Text.put_bytes.Given as goal
-
-abbrev pub invariant-loop-byte : goal.invariant-loop-byte
-invariant-loop-byte g l = Put (bytes_text (take l.byte-index l.bytes)) l.initial.self.end l.initial.self.room l.self.end l.self.room

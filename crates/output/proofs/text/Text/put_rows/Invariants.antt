@@ -1,9 +1,0 @@
--- `output::text::Text::put_rows` meets its contract: each turn puts one row more. Assumes nothing.
-use Rattle.std.proofs.Common.{◌≡◌}
-use Rattle.output.proofs.LineByLine.{RowsPut}
-use Rattle.output.proofs.text.Text.put_rows.Given as goal
-
-abbrev pub invariant-loop-index : goal.invariant-loop-index
-invariant-loop-index g l =
-    let left = l.index-iterator in
-    (left.iter.size ≡ l.width) × RowsPut l.letter l.width l.table l.initial.self.end l.initial.self.room left.iter.rest.now left.count l.self.end l.self.room

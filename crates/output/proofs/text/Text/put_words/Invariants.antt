@@ -1,7 +1,0 @@
--- `output::text::Text::put_words` meets its contract: each turn puts one byte more. Assumes nothing.
-use Rattle.std.proofs.Common.{take}
-use Rattle.output.specs.Put.{Put}
-use Rattle.output.proofs.text.Text.put_words.Given as goal
-
-abbrev pub invariant-loop-byte : goal.invariant-loop-byte
-invariant-loop-byte g l = Put (take l.byte-index l.words) l.initial.self.end l.initial.self.room l.self.end l.self.room
