@@ -8,6 +8,12 @@ use Rattle.fields.specs.Spots.{Take}
 use Rattle.fields.specs.Reaching.{Reach, whole, stopped, reads_by, stopped_by}
 use Rattle.fields.proofs.Reaching.{reached, one_then_other, after_whole, after_stopped}
 
+-- what is read by a number is read by the one that is due, if they are the same: a proof then asks whether they are, and not how the code forms its own
+pub reads_due :
+    {B : Type 0} (by_number : ℕ → Reader B) (taken : Spot → Take) (at : Spot) (due : ℕ) {given : ℕ} {outcome : Reach B} →
+    reads_by (by_number given) taken at ≡ outcome → given ≡ due → reads_by (by_number due) taken at ≡ outcome
+reads_due by_number taken at due came is = rw (sym is) came
+
 module _ {A : Type 0} where
   -- records that were read before those of the outcome
   abbrev pub behind : List A → Reach (List A) → Reach (List A)

@@ -12,7 +12,8 @@ use mathlib.Core.Bool.{Bool}
 use borrow.Author.Tests.{le-leb}
 use Rattle.std.proofs.Common.{Bor, true≢false}
 use Rattle.std.specs.Prelude.{Option, Some, None, IsSome, cond, option_copied}
-use Rattle.output.specs.Put.{Put, WholePromise}
+use Rattle.output.specs.Put.{Put, Holds, WholePromise}
+use Rattle.output.specs.HandedOver.{HandedOver}
 
 -- ---- bytes stored one after another
 -- one list after another
@@ -105,3 +106,8 @@ module _ {text buffer : List ℕ} {end : ℕ} {buffer' : List ℕ} (put : Put te
   put_whole =
       ap (λ (after : List ℕ). take end after) (put.stands ∙ sets-eq text buffer 0 (omega (arith, room)))
       ∙ take_at text (drop (0 + length text) buffer) end (sym ends_with_it)
+
+-- what is handed over of a room's front is the text that the room holds, if it is as much of it
+pub held_handed :
+    {text room : List ℕ} {end given : ℕ} {answered : Option (List ℕ)} → Holds text end room → HandedOver answered (take given room) → given ≡ end → HandedOver answered text
+held_handed holds handed is = rw (sym holds.stands, sym is) handed

@@ -2,7 +2,10 @@
 use Rattle.std.proofs.Common.{◌≡◌, ℕ, List, Err, rules, arith, sym, ap, ◌∙◌}
 use Rattle.fields.specs.declared.answer.Refusal.{Refusal}
 use Rattle.fields.specs.Answers.{Answer, said}
+use Rattle.fields.specs.Readers.{each}
+use Rattle.fields.specs.Spots.{taking_at}
 use Rattle.fields.specs.Reaching.{refused_by}
+use Rattle.fields.proofs.Stages.{reads_due}
 use Rattle.records.specs.Periods.{period_file, period_verdict}
 use Rattle.records.proofs.Parts.{refusal_says, header_stopped, plants_stopped, segments_stopped, lines_stopped, end_says}
 use Rattle.reading.proofs.whole.verdict.Goals as goal
@@ -43,7 +46,7 @@ returns-in_err-end c =
     let none = c.in_err-end in
     passed_on file c.from_residual-in_err-end.result none.field-0.0 (search rules)
     (lines_stopped file (omega arith) h.counts h.first_plant (sym h.ensures) p.ensures.0 p.first_segment p.ensures.1
-    s.ensures.0 s.first_line s.ensures.1 _ none.ensures)
+    s.ensures.0 s.first_line s.ensures.1 _ (reads_due (each _ 1) (taking_at file) s.first_line h.counts.lines none.ensures (omega arith)))
 
 pub returns : goal.returns
 returns c =
@@ -54,4 +57,4 @@ returns c =
     let l = c.in_ok-end in
     c.nothing_after.ensures
     ∙ end_says file (omega arith) h.counts h.first_plant (sym h.ensures) p.ensures.0 p.first_segment p.ensures.1
-    s.ensures.0 s.first_line s.ensures.1 l.ensures.0 l.end l.ensures.1
+    s.ensures.0 s.first_line s.ensures.1 l.ensures.0 l.end (reads_due (each _ 1) (taking_at file) s.first_line h.counts.lines l.ensures.1 (omega arith))

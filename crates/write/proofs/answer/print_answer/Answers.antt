@@ -1,6 +1,7 @@
 -- `write::answer::print_answer` meets its contract: what it prints is what was put, and there is room for it. Assumes nothing.
 use Rattle.std.proofs.Common.{arith, sym, length-take-le}
 use Rattle.records.specs.Periods.{period}
+use Rattle.output.proofs.Putting.{held_handed}
 use Rattle.typing.proofs.TextHeld.{answer_held}
 use Rattle.write.specs.Printed.{printed_write}
 use Rattle.write.proofs.FileFits.{period_fits}
@@ -16,11 +17,11 @@ pub slice_bounds-print-end-2 : goal.slice_bounds-print-end-2
 slice_bounds-print-end-2 c =
     let text = c.args.text.now in
     let held = answer_held period text c.args.answer.now.room (period_fits text _ (omega arith)) (omega arith) _ _ (rw c.requires at c.put_answer.ensures) in
-    sym (length-take-le _ _ held.within)
+    sym (length-take-le _ _ (omega (arith, held.within)))
 
 pub returns : goal.returns
 unfolding printed_write
 returns c =
     let text = c.args.text.now in
     let held = answer_held period text c.args.answer.now.room (period_fits text _ (omega arith)) (omega arith) _ _ (rw c.requires at c.put_answer.ensures) in
-    rw (sym held.stands) c.print.ensures
+    held_handed held c.print.ensures (omega arith)

@@ -1,6 +1,7 @@
 -- `write_days::answer::print_answer` meets its contract: what it prints is what was put, and there is room for it. Assumes nothing.
 use Rattle.std.proofs.Common.{arith, sym, length-take-le}
 use Rattle.meter.specs.Sheets.{sheet}
+use Rattle.output.proofs.Putting.{held_handed}
 use Rattle.typing.proofs.TextHeld.{answer_held}
 use Rattle.write_days.specs.Printed.{printed_write_days}
 use Rattle.write_days.proofs.FileFits.{sheet_fits}
@@ -16,11 +17,11 @@ pub slice_bounds-print-end-2 : goal.slice_bounds-print-end-2
 slice_bounds-print-end-2 c =
     let text = c.args.text.now in
     let held = answer_held sheet text c.args.answer.now.room (sheet_fits text _ (omega arith)) (omega arith) _ _ (rw c.requires at c.put_answer.ensures) in
-    sym (length-take-le _ _ held.within)
+    sym (length-take-le _ _ (omega (arith, held.within)))
 
 pub returns : goal.returns
 unfolding printed_write_days
 returns c =
     let text = c.args.text.now in
     let held = answer_held sheet text c.args.answer.now.room (sheet_fits text _ (omega arith)) (omega arith) _ _ (rw c.requires at c.put_answer.ensures) in
-    rw (sym held.stands) c.print.ensures
+    held_handed held c.print.ensures (omega arith)

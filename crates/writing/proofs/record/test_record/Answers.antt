@@ -1,9 +1,10 @@
 -- `writing::record::test_record` meets its contract: its loop takes the numbers of one record from the list's file, whose laws hold for any kind. Assumes nothing.
-use Rattle.std.proofs.Common.{◌≡◌, Err, ◌<◌, rules, arith, sym, ap, ◌∙◌, length-take-le, take-take}
+use Rattle.std.proofs.Common.{◌≡◌, ℕ, List, Err, ◌<◌, rules, arith, sym, ap, ◌∙◌, length-take-le, take-take}
 use Rattle.std.proofs.Math.Seq.{take-set-lt}
 use Rattle.fields.specs.declared.reason.Reason.{Reason}
 use Rattle.fields.specs.Reasons.{number_of}
 use Rattle.fields.specs.Answers.{notice}
+use Rattle.fields.specs.Readers.{allows_next, onward}
 use Rattle.fields.specs.Reaching.{stopped, stopped_by}
 use Rattle.fields.specs.Written.{file_of}
 use Rattle.fields.proofs.Takes.{within_limit}
@@ -33,7 +34,8 @@ returns-then-not-allows g c =
     let more : l.f < g.R.Record.FIELDS = omega (arith, c.FIELDS-f-end.ensures) in
     let v = c.in_ok-value in
     let front = take-take l.f g.R.Record.FIELDS l.values (omega arith) in
-    let wrong = rw (← front) at (sym c.allows.ensures ∙ c.if-not-allows.true) in
+    let as_tested = ap (λ (earlier : List ℕ). allows_next (onward (g.R.Record.reader c.args.by) earlier) v.value) front in
+    let wrong = as_tested ∙ sym c.allows.ensures ∙ c.if-not-allows.true in
     next_wrong l.invariant.taken g.R.Record.reasons (g.met.R.Record.wants c.args.by) g.met.R.Record.counted more v.value v.next
     (sym v.ensures.is) wrong
     ∙ ap (λ (r : Reason). stopped (notice (number_of r) l.at.place l.at.byte)) (sym c.reason.ensures)
@@ -45,7 +47,8 @@ loop-f-preserved g c =
     let more : l.f < g.R.Record.FIELDS = omega (arith, c.FIELDS-f-end.ensures) in
     let v = c.in_ok-value in
     let front = take-take l.f g.R.Record.FIELDS l.values (omega arith) in
-    let allowed = rw (← front) at (sym c.allows.ensures ∙ c.if-not-allows.false) in
+    let as_tested = ap (λ (earlier : List ℕ). allows_next (onward (g.R.Record.reader c.args.by) earlier) v.value) front in
+    let allowed = as_tested ∙ sym c.allows.ensures ∙ c.if-not-allows.false in
     record {
       here = v.ensures.next_at;
       taken =
